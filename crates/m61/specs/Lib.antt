@@ -1,0 +1,2 @@
+pub mod Mersenne
+pub mod Wide

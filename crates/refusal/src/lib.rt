@@ -1,0 +1,45 @@
+// Why a call refuses: one list for the whole library, each case with a number that never changes.
+ghost use mathlib.Core.Path.{_≡_};
+ghost use Rattle.std.specs.declared.option.Option.the-variants.{Some};
+ghost use Rattle.refusal.specs.Numbers.{number-of, printed};
+use std::fmt;
+
+#[derive(Clone, Copy, PartialEq, Eq, Debug)]
+pub enum Refusal {
+    // 9: the text has more bytes than a text may have
+    TextTooLong,
+    // 10: the ring has fewer places than the text has chunks
+    RingTooShort,
+    // 13: a subkey of the ring is no element's own number
+    SubkeyTooLarge,
+    // 14: a part of the record is missing
+    RecordCutShort,
+    // 15: the record's kind, field or count of subkeys is none that is defined
+    Undefined,
+}
+
+impl Refusal {
+    pub fn number(self) -> u8
+        ensures { λ r. ⌜ r ≡ number-of self ⌝ }
+    {
+        match self {
+            Refusal::TextTooLong => 9,
+            Refusal::RingTooShort => 10,
+            Refusal::SubkeyTooLarge => 13,
+            Refusal::RecordCutShort => 14,
+            Refusal::Undefined => 15,
+        }
+    }
+}
+
+// "refused " and the number's two decimal digits
+pub impl fmt::Display for Refusal as RefusalDisplay {
+    ghost shown = { λ r. Some (printed r) };
+
+    fn fmt<W: fmt::Write>(&self, f: &mut fmt::Formatter<W>) -> fmt::Result {
+        let number = self.number();
+        let tens = number / 10;
+        let ones = number % 10;
+        write!(f, "refused {tens}{ones}")
+    }
+}

@@ -16,7 +16,7 @@ abbrev pub told : {A : Type 0} → Result A Refusal → Outcome A
 told (Ok x) = gives x
 told (Err r) = refuses (number-of r)
 
-infix 3 _when_
+infix 70 _when_
 
 -- a cause of refusal: the refusal's number, and whether the cause is there
 pub record Cause : Type 0 where

@@ -1,0 +1,73 @@
+// The polynomial hash of a text under a ring of subkeys, over any field.
+ghost use mathlib.Core.Path.{_≡_};
+ghost use mathlib.Core.Bool.{false};
+ghost use Prim.Native.Nat.{_≤_};
+ghost use lib.ListN.{length};
+ghost use Rattle.refusal.specs.Outcomes.{told};
+ghost use Rattle.hash.specs.Texts.{block-bytes, longest-text, number, block-count, chunk-count};
+ghost use Rattle.hash.specs.Hash.{after, some-from, hash-outcome};
+use field::Field;
+use refusal::Refusal;
+
+pub const LONGEST_TEXT: usize = 57_344;
+const BLOCK_BYTES: usize = 7;
+const CHUNK_BLOCKS: usize = 1_024;
+
+// How many chunks the text has: as many subkeys does its hash take.
+pub fn chunks(text: &[u8]) -> usize
+    ensures { λ r. ⌜ r ≡ chunk-count (now (text .entry)) ⌝ }
+{
+    text.len().div_ceil(BLOCK_BYTES).div_ceil(CHUNK_BLOCKS)
+}
+
+// The number of a block, its first byte lowest.
+fn block_number(block: &[u8]) -> u64
+    requires { ⌜ length (now block) ≤ block-bytes ⌝ }
+    ensures { λ r. ⌜ r ≡ number (now (block .entry)) ⌝ }
+{
+    let mut number = 0;
+    for (i, byte) in block.iter().enumerate() {
+        number += u64::from(*byte) << (8 * i);
+    }
+    number
+}
+
+// Whether some subkey is no element's own number.
+fn too_large<F: Field>(ring: &[u64]) -> bool
+    ensures { λ r. ⌜ r ≡ some-from (F·Field .model .size) (now (ring .entry)) ⌝ }
+{
+    for subkey in ring {
+        if *subkey >= F::order() {
+            return true;
+        }
+    }
+    false
+}
+
+// A working number of what the text's blocks make, each with the subkey of its chunk.
+fn polynomial<F: Field>(ring: &[u64], text: &[u8]) -> u64
+    requires { ⌜ chunk-count (now text) ≤ length (now ring) ⌝ ∗ ⌜ some-from (F·Field .model .size) (now ring) ≡ false ⌝ }
+    ensures element { λ r. ⌜ F·Field .model .means r ≡ after (F·Field .model) (now (ring .entry)) (now (text .entry)) (block-count (now (text .entry))) ⌝ }
+{
+    let mut x = 0;
+    for (i, block) in text.chunks(BLOCK_BYTES).enumerate() {
+        x = F::product(F::sum(x, block_number(block)), ring[i / CHUNK_BLOCKS]);
+    }
+    x
+}
+
+pub fn hash<F: Field>(ring: &[u64], text: &[u8]) -> Result<u64, Refusal>
+    ensures { λ r. ⌜ told r ≡ hash-outcome (F·Field .model) (now (ring .entry)) (now (text .entry)) ⌝ }
+{
+    if text.len() > LONGEST_TEXT {
+        return Err(Refusal::TextTooLong);
+    }
+    if ring.len() < chunks(text) {
+        return Err(Refusal::RingTooShort);
+    }
+    if too_large::<F>(ring) {
+        return Err(Refusal::SubkeyTooLarge);
+    }
+    let x = polynomial::<F>(ring, text);
+    Ok(F::reduce(F::sum(x, text.len() as u64)))
+}

@@ -1,1 +1,4 @@
-
+pub mod Numbers
+pub mod Cutting
+pub mod Rings
+pub mod Horner

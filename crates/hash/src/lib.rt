@@ -1,7 +1,7 @@
 // The polynomial hash of a text under a ring of subkeys, over any field.
 ghost use mathlib.Core.Path.{_≡_};
 ghost use mathlib.Core.Bool.{false};
-ghost use Prim.Native.Nat.{_≤_};
+ghost use Prim.Native.Nat.{_^_, _<_, _≤_};
 ghost use lib.ListN.{length};
 ghost use Rattle.refusal.specs.Outcomes.{told};
 ghost use Rattle.hash.specs.Texts.{block-bytes, longest-text, number, block-count, chunk-count};
@@ -23,7 +23,8 @@ pub fn chunks(text: &[u8]) -> usize
 // The number of a block, its first byte lowest.
 fn block_number(block: &[u8]) -> u64
     requires { ⌜ length (now block) ≤ block-bytes ⌝ }
-    ensures { λ r. ⌜ r ≡ number (now (block .entry)) ⌝ }
+    ensures value { λ r. ⌜ r ≡ number (now (block .entry)) ⌝ }
+    ensures small { λ r. ⌜ r < 2 ^ 56 ⌝ }
 {
     let mut number = 0;
     for (i, byte) in block.iter().enumerate() {

@@ -1,1 +1,2 @@
 mod TwoDigits
+pub mod Decided

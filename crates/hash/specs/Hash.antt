@@ -4,7 +4,7 @@ use mathlib.Core.List.{List, [], _∷_}
 use Prim.Native.Nat.{ℕ, zero, suc}
 use lib.ListN.{length, getD}
 use lib.Dec.{leb, ltb}
-use Rattle.refusal.specs.Outcomes.{Cause, _when_, Outcome, decided}
+use Rattle.refusal.specs.Outcomes.{Cause, _when_, Outcome, gives, decided}
 use Rattle.field.specs.Model.{Model}
 use Rattle.hash.specs.Texts.{longest-text, block-count, chunk-count, block, chunk-of}
 
@@ -34,4 +34,4 @@ hash-causes m ring text =
     ∷ []
 
 abbrev pub hash-outcome : Model → List ℕ → List ℕ → Outcome ℕ
-hash-outcome m ring text = decided (hash-causes m ring text) (hash-of m ring text)
+hash-outcome m ring text = decided (hash-causes m ring text) (gives (hash-of m ring text))

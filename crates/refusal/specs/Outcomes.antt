@@ -26,7 +26,7 @@ pub record Cause : Type 0 where
 abbrev pub _when_ : ℕ → Bool → Cause
 n when b = record { number = n; there = b }
 
--- the first cause that is there decides; the value is given where none is
-abbrev pub decided : {A : Type 0} → List Cause → A → Outcome A
-decided [] x = gives x
-decided (c ∷ cs) x = cond (c .there) (refuses (c .number)) (decided cs x)
+-- the first cause that is there decides; where none is, the outcome is the one given
+abbrev pub decided : {A : Type 0} → List Cause → Outcome A → Outcome A
+decided [] o = o
+decided (c ∷ cs) o = cond (c .there) (refuses (c .number)) (decided cs o)

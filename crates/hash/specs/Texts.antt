@@ -1,7 +1,8 @@
 -- A text, as the hash cuts it: blocks of seven bytes, and chunks of 1024 blocks. Assumes nothing.
-use mathlib.Core.List.{List, [], _∷_}
+use mathlib.Core.List.{List}
 use Prim.Native.Nat.{ℕ, _+_, _-_, _*_, _/_}
 use lib.ListN.{length, take, drop}
+pub use Rattle.bytes.specs.Numbers.{number}
 
 abbrev pub block-bytes : ℕ
 block-bytes = 7
@@ -22,11 +23,6 @@ block-count text = groups (length text) block-bytes
 
 abbrev pub chunk-count : List ℕ → ℕ
 chunk-count text = groups (block-count text) chunk-blocks
-
--- the number of a row of bytes, the first byte lowest; zero bytes behind the last would not change it
-abbrev pub number : List ℕ → ℕ
-number [] = 0
-number (b ∷ bs) = b + 256 * number bs
 
 -- the number of block i; what the last block lacks counts as zero bytes
 abbrev pub block : List ℕ → ℕ → ℕ

@@ -1,0 +1,2 @@
+mod Subkeys
+mod Requests

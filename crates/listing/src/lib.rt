@@ -1,0 +1,2 @@
+// The listing of hash records: a line for each record of an input.
+mod answer;

@@ -1,2 +1,4 @@
 mod Subkeys
 mod Requests
+mod Hex
+mod Following

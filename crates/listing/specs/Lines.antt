@@ -1,4 +1,5 @@
 -- The listing of an input: a line for each record, until one is cut short. Assumes nothing.
+use mathlib.Core.Path.{_≡_}
 use mathlib.Core.Bool.{Bool, false, cond}
 use mathlib.Core.List.{List, [], _∷_, _++_}
 use Prim.Native.Nat.{ℕ, zero, suc, _+_, _/_, _%_}
@@ -64,3 +65,10 @@ lines (suc n) (b ∷ bs) = line-of (outcome-of (b ∷ bs)) ++ continued (lines n
 -- a record has at least six bytes, so an input has fewer lines than bytes
 abbrev pub listing-of : List ℕ → List ℕ
 listing-of input = lines (length input) input
+
+-- the bound on the lines is never met: a listing is the first record's line and the listing of what follows
+abbrev pub Line-by-line : Type 0
+Line-by-line =
+    (listing-of [] ≡ [])
+    × ((b : ℕ) (bs : List ℕ)
+      → listing-of (b ∷ bs) ≡ line-of (outcome-of (b ∷ bs)) ++ continued listing-of (next-of (b ∷ bs)))

@@ -34,8 +34,8 @@ pub record Taken (n : ℕ) (bytes : List ℕ) (x : ℕ) (rest : List ℕ) : Type
 pub front-some : (n : ℕ) (bytes rest : List ℕ) (x : ℕ) → Some (x, rest) ≡ front n bytes → Taken n bytes x rest
 front-some n bytes rest x is =
     elim (leb-tells (suc (length bytes)) n) [
-      inl few ↦ let never : _≡_ {A = ℕ} 0 1 = cc in absurd (omega arith)
-    | inr enough ↦
+      | inl few ↦ let never : _≡_ {A = ℕ} 0 1 = cc in absurd (omega arith)
+      | inr enough ↦
           let both : _≡_ {A = ℕ × List ℕ} (x, rest) (number (take n bytes), drop n bytes) = cc in
           record {
             enough = omega arith;

@@ -18,5 +18,8 @@ pub fn take_u64(bytes: &[u8]) -> Option<(u64, &[u8])>
     let [b0, b1, b2, b3, b4, b5, b6, b7, rest @ ..] = bytes else {
         return None;
     };
-    Some((u64::from_le_bytes([*b0, *b1, *b2, *b3, *b4, *b5, *b6, *b7]), rest))
+    Some((
+        u64::from_le_bytes([*b0, *b1, *b2, *b3, *b4, *b5, *b6, *b7]),
+        rest,
+    ))
 }

@@ -15,11 +15,11 @@ pub cut : {X : Type 0} (xs piece rest : List X) (k : ℕ) → xs ≡ piece ++ re
 cut {X} xs piece rest k is long =
     let both = ap length is ∙ length-append piece rest in
     elim (cases-lt (length xs) k) [
-      inl few ↦
+      | inl few ↦
           let none : rest ≡ [] = nil-from-length rest (omega arith) in
           let all : piece ≡ xs = sym (is ∙ ap (λ (ys : List X). piece ++ ys) none ∙ append-nil piece) in
           (all ∙ sym (take-all k xs (omega arith)), none ∙ sym (drop-all k xs (omega arith)))
-    | inr enough ↦
+      | inr enough ↦
           let full : length piece ≡ k = omega arith in
           (sym (ap (take k) is ∙ take-at piece rest k full), sym (ap (drop k) is ∙ drop-at piece rest k full))
     ]

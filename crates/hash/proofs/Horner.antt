@@ -55,15 +55,15 @@ module _ {m : Model} (laws : FieldLaws m) where
         let l = left s in
         let below : subkey ring i < m .size = each-below (m .size) ring elements (chunk-of i) (served s some enough) in
         let pieces = cut-next text piece rest′ block-bytes i (sym (s .to-come) ∙ cut)
-            (long ∙ ap₂ (λ (n : ℕ) (xs : List ℕ). min n (length xs)) full (s .to-come)) in
+        (long ∙ ap₂ (λ (n : ℕ) (xs : List ℕ). min n (length xs)) full (s .to-come)) in
         record {
           few = omega arith;
           to-come = pieces .1 ∙ ap (λ (n : ℕ). drop (block-bytes * n) text) (sym next);
           value =
               is-product
               ∙ ap₂ (m .times)
-                  (is-sum ∙ ap₂ (m .plus) (s .value) (small-own b small ∙ is-block ∙ ap number (pieces .0)))
-                  (ap (λ (n : ℕ). m .means (subkey ring n)) here ∙ laws .means-own (subkey ring i) below)
+              (is-sum ∙ ap₂ (m .plus) (s .value) (small-own b small ∙ is-block ∙ ap number (pieces .0)))
+              (ap (λ (n : ℕ). m .means (subkey ring n)) here ∙ laws .means-own (subkey ring i) below)
               ∙ ap (after m ring text) (sym (next ∙ add-one i));
         }
 

@@ -22,8 +22,8 @@ number-push (x ∷ xs) b =
     let place : ℕ = 2 ^ (8 * length xs) in
     let rest = number-push xs b in
     let top : b * 2 ^ (8 * suc (length xs)) ≡ 256 * (b * place) =
-        ap (λ (k : ℕ). b * 2 ^ (8 * k)) (sym (add-one (length xs)))
-        ∙ ap (λ (p : ℕ). b * p) (place-more (length xs)) ∙ mul-left-comm b 256 place in
+    ap (λ (k : ℕ). b * 2 ^ (8 * k)) (sym (add-one (length xs)))
+    ∙ ap (λ (p : ℕ). b * p) (place-more (length xs)) ∙ mul-left-comm b 256 place in
     omega arith
 
 -- the byte at place i is worth 2 ^ (8 i)

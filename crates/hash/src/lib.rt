@@ -10,7 +10,9 @@ use field::Field;
 use refusal::Refusal;
 
 pub const LONGEST_TEXT: usize = 57_344;
+
 const BLOCK_BYTES: usize = 7;
+
 const CHUNK_BLOCKS: usize = 1_024;
 
 // How many chunks the text has: as many subkeys does its hash take.

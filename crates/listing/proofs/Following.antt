@@ -52,14 +52,14 @@ lines-enough (suc n) (suc m) [] a b = refl
 lines-enough (suc n) (suc m) (x ∷ xs) a b =
     ap (λ (ys : List ℕ). line-of (outcome-of (x ∷ xs)) ++ ys)
     (continued-same (lines n) (lines m) (next-of (x ∷ xs))
-        (λ rest is. let less = shorter (x ∷ xs) rest is in lines-enough n m rest (omega arith) (omega arith)))
+    (λ rest is. let less = shorter (x ∷ xs) rest is in lines-enough n m rest (omega arith) (omega arith)))
 
 listing-step : (b : ℕ) (bs : List ℕ)
     → listing-of (b ∷ bs) ≡ line-of (outcome-of (b ∷ bs)) ++ continued listing-of (next-of (b ∷ bs))
 listing-step b bs =
     ap (λ (ys : List ℕ). line-of (outcome-of (b ∷ bs)) ++ ys)
     (continued-same (lines (length bs)) listing-of (next-of (b ∷ bs))
-        (λ rest is. let less = shorter (b ∷ bs) rest is in lines-enough (length bs) (length rest) rest (omega arith) (omega arith)))
+    (λ rest is. let less = shorter (b ∷ bs) rest is in lines-enough (length bs) (length rest) rest (omega arith) (omega arith)))
 
 pub line-by-line : Line-by-line
 line-by-line = (refl, listing-step)
@@ -71,7 +71,7 @@ pub gone-on : (input written written′ line rest : List ℕ) (o : Option (List 
 gone-on input written written′ line [] o some sofar put is next = absurd (omega arith)
 gone-on input written written′ line (b ∷ bs) o some sofar put is next =
     ap₂ (λ (xs ys : List ℕ). xs ++ ys)
-        (put ∙ ap (λ (xs : List ℕ). written ++ xs) is) (ap (continued listing-of) next)
+    (put ∙ ap (λ (xs : List ℕ). written ++ xs) is) (ap (continued listing-of) next)
     ∙ append-assoc written (line-of (outcome-of (b ∷ bs))) (continued listing-of (next-of (b ∷ bs)))
     ∙ ap (λ (xs : List ℕ). written ++ xs) (sym (listing-step b bs))
     ∙ sofar

@@ -19,7 +19,7 @@ hex-more n i some most =
     let place : 4 * (i - 1) + 4 ≡ 4 * i = omega arith in
     ap (λ (k : ℕ). hex k m) one
     ∙ ap (λ (q : ℕ). hex (16 - i) q ++ hex-digit (m % 16) ∷ [])
-        (shr-shr n (4 * (i - 1)) 4 ∙ ap (λ (k : ℕ). n / 2 ^ k) place)
+    (shr-shr n (4 * (i - 1)) 4 ∙ ap (λ (k : ℕ). n / 2 ^ k) place)
 
 hex-digit-ascii : (d : ℕ) → d < 16 → hex-digit d < 128
 hex-digit-ascii d small = grind (arith, tells)

@@ -21,8 +21,19 @@ use Rattle.bytes.proofs.Places.{number-by-place}
 use Rattle.bytes.proofs.Fronts.{Taken}
 use Rattle.hash.specs.Hash.{hash-outcome}
 use Rattle.listing.specs.Names.{subkeys-read}
-use Rattle.listing.specs.Requests.{hash-kind, most-subkeys, field-named, subkeys, field-byte, count, ring, text,
-    request-causes, hash-over, request-outcome}
+use Rattle.listing.specs.Requests.{
+  hash-kind,
+  most-subkeys,
+  field-named,
+  subkeys,
+  field-byte,
+  count,
+  ring,
+  text,
+  request-causes,
+  hash-over,
+  request-outcome,
+}
 
 -- field byte and count, and what follows them
 pub record Opened (body : List ℕ) (f n : ℕ) (rest : List ℕ) : Type 0 where
@@ -51,8 +62,8 @@ read-through : (n : ℕ) (bytes rest : List ℕ) → Some rest ≡ subkeys-read 
     → (8 * n ≤ length bytes) × (rest ≡ drop (8 * n) bytes)
 read-through n bytes rest is =
     elim (leb-tells (suc (length bytes)) (8 * n)) [
-      inl few ↦ let never : _≡_ {A = ℕ} 0 1 = cc in absurd (omega arith)
-    | inr enough ↦ (omega arith, cc)
+      | inl few ↦ let never : _≡_ {A = ℕ} 0 1 = cc in absurd (omega arith)
+      | inr enough ↦ (omega arith, cc)
     ]
 
 pub answered : {kind : ℕ} {body : List ℕ} {f n k : ℕ} {rest : List ℕ} {m : Model} {ks bytes : List ℕ} {o : Outcome ℕ}
@@ -66,14 +77,19 @@ answered {kind} {body} {f} {n} {k} {rest} {m} {ks} {bytes} is-kind head is-field
     let model : Some m ≡ field-named (field-byte body) = is-field ∙ ap field-named (head .field-is) in
     let ring-is : ks ≡ ring body = keys ∙ ap₂ subkeys counted (head .behind) in
     let text-is : bytes ≡ text body =
-        through .1 ∙ ap (drop (8 * k)) (head .behind) ∙ drop-drop (8 * k) 2 body
-        ∙ ap (λ (i : ℕ). drop (2 + 8 * i) body) counted in
+    through .1 ∙ ap (drop (8 * k)) (head .behind) ∙ drop-drop (8 * k) 2 body
+    ∙ ap (λ (i : ℕ). drop (2 + 8 * i) body) counted in
     let some-few : ltb most-subkeys (count body) ≡ false = le-ltb most-subkeys (count body) (omega arith) in
     is
     ∙ ap₂ (hash-outcome m) ring-is text-is
     ∙ ap (λ (q : Option Model). hash-over q (ring body) (text body)) model
-    ∙ undecided (request-causes kind body) (hash-over (field-named (field-byte body)) (ring body) (text body))
-        (ap not (eq-eqb kind hash-kind is-kind),
-        (le-ltb (length body) 2 (head .two),
-        (ap₂ (λ (a b : Bool). not a || b) (ap isSome (sym model)) some-few,
-        (le-ltb (length body) (2 + 8 * count body) (omega (arith, head .two, through .0)), tt))))
+    ∙ undecided (request-causes kind body) (hash-over (field-named (field-byte body)) (ring body) (text body)) (
+      ap not (eq-eqb kind hash-kind is-kind),
+      (
+        le-ltb (length body) 2 (head .two),
+        (
+          ap₂ (λ (a b : Bool). not a || b) (ap isSome (sym model)) some-few,
+          (le-ltb (length body) (2 + 8 * count body) (omega (arith, head .two, through .0)), tt),
+        ),
+      ),
+    )

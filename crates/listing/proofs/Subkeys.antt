@@ -22,7 +22,7 @@ subkeys-push zero bytes = refl
 subkeys-push (suc n) bytes =
     ap (λ (ks : List ℕ). number (take 8 bytes) ∷ ks) (subkeys-push n (drop 8 bytes))
     ∙ ap (λ (bs : List ℕ). number (take 8 bytes) ∷ (subkeys n (drop 8 bytes) ++ number (take 8 bs) ∷ []))
-        (drop-drop (8 * n) 8 bytes ∙ ap (λ (k : ℕ). drop k bytes) e)
+    (drop-drop (8 * n) 8 bytes ∙ ap (λ (k : ℕ). drop k bytes) e)
   where
     e : 8 + 8 * n ≡ 8 * suc n
     e = omega arith
@@ -66,8 +66,7 @@ pub ended : {bytes : List ℕ} {i : ℕ} {ring rest : List ℕ} (n : ℕ) → So
     → length ring ≡ n → (Some rest ≡ subkeys-read n bytes) × (ring ≡ subkeys n bytes)
 ended {bytes} {i} {ring} {rest} n s all long =
     let there : ltb (length bytes) (8 * n) ≡ false = le-ltb (length bytes) (8 * n) (omega (arith, s .enough)) in
-    let behind : rest ≡ drop (8 * n) bytes = s .to-come ∙ ap (λ (k : ℕ). drop (8 * k) bytes) all in
-    (
+    let behind : rest ≡ drop (8 * n) bytes = s .to-come ∙ ap (λ (k : ℕ). drop (8 * k) bytes) all in (
       simp (there, behind),
       sym (take-all i ring (omega arith)) ∙ s .placed ∙ ap (λ (k : ℕ). subkeys k bytes) all,
     )

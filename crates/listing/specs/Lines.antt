@@ -71,4 +71,4 @@ abbrev pub Line-by-line : Type 0
 Line-by-line =
     (listing-of [] ≡ [])
     × ((b : ℕ) (bs : List ℕ)
-      → listing-of (b ∷ bs) ≡ line-of (outcome-of (b ∷ bs)) ++ continued listing-of (next-of (b ∷ bs)))
+    → listing-of (b ∷ bs) ≡ line-of (outcome-of (b ∷ bs)) ++ continued listing-of (next-of (b ∷ bs)))

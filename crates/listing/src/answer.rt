@@ -8,14 +8,15 @@ ghost use Rattle.hash.specs.Hash.{hash-outcome};
 ghost use Rattle.listing.specs.Requests.{field-named, subkeys, request-outcome};
 ghost use Rattle.listing.specs.Lines.{seen};
 ghost use Rattle.listing.specs.Names.{named, subkeys-read, model-of};
-use bytes::take_u64;
 use bytes::take_u8;
+use bytes::take_u64;
 use hash::hash;
 use m61::M61;
 use m61::M61Field;
 use refusal::Refusal;
 
 const HASH_KIND: u16 = 2;
+
 const MOST_SUBKEYS: usize = 8;
 
 // The fields that a record can name.

@@ -6,12 +6,13 @@ ghost use Rattle.std.specs.Of.String.{string-bytes};
 ghost use Rattle.std.specs.Vec.{made};
 ghost use Rattle.refusal.specs.Outcomes.{told};
 ghost use Rattle.listing.specs.Lines.{outcome-of, next-of, seen, hex, hex-digit, line-of, listing-of, Line-by-line};
-use record::read_record;
 use record::Record;
+use record::read_record;
 use refusal::Refusal;
 use refusal::RefusalDisplay;
 use std::alloc::AllocError;
 use std::alloc::Global;
+
 mod answer;
 
 // The answer to one record, and where the next one begins: nowhere behind a record that is cut short.

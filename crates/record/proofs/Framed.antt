@@ -26,9 +26,9 @@ framed input kind len body rest six is-len is-kind two within is-body is-rest =
     let kinded : ltb (stated input) 2 ≡ false = le-ltb (stated input) 2 (omega arith) in
     let past : 6 + (len - 2) ≡ 4 + stated input = omega arith in
     let behind : rest ≡ drop (4 + stated input) input =
-        is-rest ∙ ap (drop (len - 2)) (take-rest input 6) ∙ drop-drop (len - 2) 6 input
-        ∙ ap (λ (n : ℕ). drop n input) past in
+    is-rest ∙ ap (drop (len - 2)) (take-rest input 6) ∙ drop-drop (len - 2) 6 input
+    ∙ ap (λ (n : ℕ). drop n input) past in
     let inside : body ≡ take (stated input - 2) (drop 6 input) =
-        is-body ∙ ap (take (len - 2)) (take-rest input 6)
-        ∙ ap (λ (n : ℕ). take (n - 2) (drop 6 input)) states in
+    is-body ∙ ap (take (len - 2)) (take-rest input 6)
+    ∙ ap (λ (n : ℕ). take (n - 2) (drop 6 input)) states in
     simp (four, whole, kinded, names, inside, behind)

@@ -17,7 +17,6 @@ told (Ok x) = gives x
 told (Err r) = refuses (number-of r)
 
 infix 70 _when_
-
 -- a cause of refusal: the refusal's number, and whether the cause is there
 pub record Cause : Type 0 where
   pub number : ℕ

@@ -17,9 +17,12 @@ returns g c =
     let text = c .args .text .now in
     let own = small-own (g .F·Field·met .holds) (length text) (omega arith) in
     let value : c .reduce .result ≡ hash-of m ring text =
-        c .reduce .ensures ∙ c .sum .ensures .element ∙ ap₂ (m .plus) (c .polynomial-x .ensures .element) own in
+    c .reduce .ensures ∙ c .sum .ensures .element ∙ ap₂ (m .plus) (c .polynomial-x .ensures .element) own in
     ap gives value
-    ∙ undecided (hash-causes m ring text) (gives (hash-of m ring text))
-      (le-ltb longest-text (length text) (c .if-text-gt-LONGEST-TEXT .left),
-      (le-ltb (length ring) (chunk-count text) (omega arith),
-      (sym (c .if-too-large .ensures tt), tt)))
+    ∙ undecided (hash-causes m ring text) (gives (hash-of m ring text)) (
+      le-ltb longest-text (length text) (c .if-text-gt-LONGEST-TEXT .left),
+      (
+        le-ltb (length ring) (chunk-count text) (omega arith),
+        (sym (c .if-too-large .ensures tt), tt),
+      ),
+    )

@@ -17,8 +17,7 @@ index-ring-i g c =
 
 pub loop-i-again : need.loop-i-again
 loop-i-again g c =
-    let step = c .in-Some .ensures tt .steps in
-    (
+    let step = c .in-Some .ensures tt .steps in (
       step .0 .0 ∙ c .loop-i .inv .0,
       turned (g .F·Field·met .holds) (c .in-Some .block .now) (c .loop-i .inv .1) (c .pre .0) (c .pre .1)
           (step .0 .1 .0) (step .0 .1 .1) (step .0 .1 .2) (step .1) (step .2) (c .loop-i .inv .0)

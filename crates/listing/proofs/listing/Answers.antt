@@ -45,9 +45,9 @@ returns-in-rest c =
       bytes =
           sym (append-nil _)
           ∙ gone-on (c .args .input .now) (string-bytes (c .loop-rest .text)) _ _ (c .loop-rest .rest .now) None
-              (some-left (length (c .loop-rest .rest .now)) (c .loop-rest-test .ensures tt)) (c .loop-rest .inv)
-              (c .in-Continue-push-str .ensures tt .bytes) (c .as-str .ensures .value ∙ c .in-Continue-line .ensures tt .0)
-              (ap seen (sym (c .in-rest .is)) ∙ c .in-Continue-line .ensures tt .1);
+          (some-left (length (c .loop-rest .rest .now)) (c .loop-rest-test .ensures tt)) (c .loop-rest .inv)
+          (c .in-Continue-push-str .ensures tt .bytes) (c .as-str .ensures .value ∙ c .in-Continue-line .ensures tt .0)
+          (ap seen (sym (c .in-rest .is)) ∙ c .in-Continue-line .ensures tt .1);
       lines = line-by-line;
     }
 

@@ -15,4 +15,4 @@ pub returns : need.returns
 returns c =
     c .loop-i .inv
     ∙ ap (λ (xs : List ℕ). string-bytes (c .args .text .now) ++ xs)
-        (hex-all (c .args .number) (c .loop-i .i) (c .loop-i-test .left))
+    (hex-all (c .args .number) (c .loop-i .i) (c .loop-i-test .left))

@@ -20,8 +20,8 @@ returns c =
     let n = c .in-Some-take-u8 .count in
     let few : n ≤ 8 = omega arith in
     answered (omega arith)
-        (opened (front-some 1 body after-field (c .in-Some .field) (c .in-Some .ensures tt))
-            (front-some 1 after-field after-count n (c .in-Some-take-u8 .ensures tt)))
-        (c .in-Some-field-named .ensures tt) few (places _ n refl few)
-        (c .in-Some-take-subkeys .ensures tt .rest) (c .in-Some-take-subkeys .ensures tt .ring refl)
-        (c .hash-over .ensures)
+    (opened (front-some 1 body after-field (c .in-Some .field) (c .in-Some .ensures tt))
+    (front-some 1 after-field after-count n (c .in-Some-take-u8 .ensures tt)))
+    (c .in-Some-field-named .ensures tt) few (places _ n refl few)
+    (c .in-Some-take-subkeys .ensures tt .rest) (c .in-Some-take-subkeys .ensures tt .ring refl)
+    (c .hash-over .ensures)

@@ -24,14 +24,19 @@ fn row(x: u64, i: u32, y: u64) -> u64
     0u64.wrapping_sub((x >> i) & 1) & y
 }
 
-// From the highest coefficient of `x` down.
+// The product of two elements, from the highest coefficients of `x` down, four at a time.
 fn multiply(x: u64, y: u64) -> u64
     requires { ⌜ x < 2 ^ 63 ⌝ ∗ ⌜ y < 2 ^ 63 ⌝ }
     ensures { λ r. ⌜ r ≡ times63 x y ⌝ }
 {
+    let yz = by_power(1, y);
+    let yz2 = by_power(2, y);
+    let yz3 = by_power(3, y);
     let mut r = 0;
-    for i in (0..63u32).rev() {
-        r = by_power(1, r) ^ row(x, i, y);
+    for i in (0..16u32).rev() {
+        let four = x >> (4 * i);
+        let rows = row(four, 0, y) ^ row(four, 1, yz) ^ row(four, 2, yz2) ^ row(four, 3, yz3);
+        r = by_power(4, r) ^ rows;
     }
     r
 }

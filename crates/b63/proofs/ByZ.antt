@@ -1,18 +1,18 @@
 -- z times an element. Assumes nothing.
-use mathlib.Core.Path.{_≡_, refl, sym, ap, ap₂, _∙_}
+use mathlib.Core.Path.{_≡_, ap, ap₂, _∙_}
 use Prim.Native.Nat.{ℕ, _+_, _*_, _/_, _%_, _^_, _<_}
 use native.Mathlib.Nat.{zero-add, mod-lt}
 use native.Mathlib.Omega.{arith}
 use lib.Dec.{lit<}
 use lib.Bits.{bitXor, xor-zero-r, xor-self, xor-lt, xor-block}
 use Rattle.b63.specs.Binary.{byZ, modulus}
-use Rattle.b63.proofs.Xor.{Additive, in-order, shift-plus}
+use Rattle.b63.proofs.Xor.{Additive, in-order, double-plus}
 use Rattle.b63.proofs.Bit.{bits-plus, bit-lt, xor-bit}
 
 pub byZ-plus : Additive byZ
 unfolding byZ
 byZ-plus a b =
-    ap₂ bitXor (shift-plus 1 a b)
+    ap₂ bitXor (double-plus a b)
     (ap (λ (d : ℕ). d * modulus) (xor-bit a b 62) ∙ bits-plus (a / 2 ^ 62) (b / 2 ^ 62) modulus)
     ∙ simp in-order
 
@@ -33,4 +33,5 @@ byZ-lt a h =
     let three : t * 3 < 2 ^ 63 = bit-lt (a / 2 ^ 62) 3 (2 ^ 63) (lit< tt) in
     let parts : a * 2 ≡ t * 2 ^ 63 + m = omega arith in
     let modulus-parts : t * modulus ≡ t * 2 ^ 63 + t * 3 = omega arith in
-    rw (parts, modulus-parts, xor-block 63 t t m (t * 3) low three, xor-self t, zero-add) (xor-lt 63 m (t * 3) low three)
+    let folded = xor-block 63 t t m (t * 3) low three in
+    rw (parts, modulus-parts, folded, xor-self t, zero-add) (xor-lt 63 m (t * 3) low three)

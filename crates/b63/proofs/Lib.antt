@@ -5,4 +5,5 @@ mod ByZ
 mod Product
 mod Power
 mod Window
+mod Fours
 mod Remainder

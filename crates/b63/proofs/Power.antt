@@ -3,10 +3,9 @@ use mathlib.Core.Path.{_≡_, refl, sym, ap, ap₂, _∙_}
 use Prim.Native.Nat.{ℕ, zero, suc, _+_, _-_, _*_, _/_, _%_, _^_, _≤_, _<_}
 use native.Mathlib.Nat.{zero-add, suc-add, mul-one, mul-assoc, mod-lt, pow-suc, pow-succ'}
 use native.Mathlib.Omega.{arith}
-use lib.Dec.{lit<}
 use lib.Bits.{bitXor, xor-shifted}
 use lib.Pow.{pow-pos, pow-mono, split, shr-lt}
-use Rattle.b63.specs.Binary.{byZ, byPower, times63}
+use Rattle.b63.specs.Binary.{byZ, byPower}
 use Rattle.b63.proofs.Xor.{Additive, in-order}
 use Rattle.b63.proofs.Rows.{past-factor, rows-up}
 use Rattle.b63.proofs.ByZ.{byZ-plus, byZ-short}
@@ -62,13 +61,13 @@ power-parts j x few h =
     let top-lt : top < 2 ^ j = shr-lt j i (rw all-too h) in
     let most : j ≤ 62 = omega arith in
     let short : top < 2 ^ 62 = omega (arith, pow-mono most) in
-    ap (byPower j) (sym (xor-shifted top i low low-lt ∙ split x i))
-    ∙ power-plus j (top * 2 ^ i) low
-    ∙ ap₂ bitXor
-    (ap (byPower j) (sym (power-short j i top all-too top-lt))
+    let whole : bitXor (top * 2 ^ i) low ≡ x = xor-shifted top i low low-lt ∙ split x i in
+    let over : byPower j (top * 2 ^ i) ≡ bitXor top (byZ top) =
+    ap (byPower j) (sym (power-short j i top all-too top-lt))
     ∙ sym (power-add i j top)
     ∙ ap (λ (n : ℕ). byPower n top) all
-    ∙ power-63 top (omega arith)
-    ∙ ap (bitXor top) (byZ-short top short))
-    (power-short i j low all low-lt)
+    ∙ power-63 top (omega arith) in
+    ap (byPower j) (sym whole)
+    ∙ power-plus j (top * 2 ^ i) low
+    ∙ ap₂ bitXor (over ∙ ap (bitXor top) (byZ-short top short)) (power-short i j low all low-lt)
     ∙ (simp in-order)

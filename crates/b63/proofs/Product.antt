@@ -1,6 +1,6 @@
 -- The product of two elements. Assumes nothing.
-use mathlib.Core.Path.{_≡_, refl, sym, ap, ap₂, _∙_}
-use Prim.Native.Nat.{ℕ, zero, suc, _+_, _*_, _/_, _%_, _^_, _≤_, _<_}
+use mathlib.Core.Path.{_≡_, sym, ap, ap₂, _∙_}
+use Prim.Native.Nat.{ℕ, zero, suc, _*_, _/_, _%_, _^_, _≤_, _<_}
 use native.Mathlib.Nat.{mul-one, mod-one, mod-lt, mod-eq-of-lt}
 use native.Mathlib.Numerals.{add-one}
 use native.Mathlib.Omega.{arith}
@@ -19,16 +19,16 @@ rows-lt (suc k) a b h =
     xor-lt 63 ((a % 2) * b) (rows byZ k (a / 2) (byZ b))
     (bit-lt a b (2 ^ 63) h) (rows-lt k (a / 2) (byZ b) (byZ-lt b h))
 
-rows-one : (k a : ℕ) → k ≤ 63 → rows byZ k a 1 ≡ a % 2 ^ k
+rows-by-one : (k a : ℕ) → k ≤ 63 → rows byZ k a 1 ≡ a % 2 ^ k
 unfolding rows
-rows-one zero a h = sym (mod-one a)
-rows-one (suc k) a h =
+rows-by-one zero a h = sym (mod-one a)
+rows-by-one (suc k) a h =
     let r : ℕ = a / 2 % 2 ^ k in
     let few : k ≤ 62 = omega arith in
     let more = pow-mono few in
     let small : r < 2 ^ 62 = omega (arith, mod-lt (a / 2) (pow-pos k)) in
     rows-suc byZ byZ-plus k a 1
-    ∙ ap₂ bitXor (mul-one (a % 2)) (ap byZ (rows-one k (a / 2) (omega arith)) ∙ byZ-short r small)
+    ∙ ap₂ bitXor (mul-one (a % 2)) (ap byZ (rows-by-one k (a / 2) (omega arith)) ∙ byZ-short r small)
     ∙ xor-comm (a % 2) (r * 2)
     ∙ xor-shifted r 1 (a % 2) (mod-lt a (lit< tt))
     ∙ sym (mod-pow-add a k 1)
@@ -42,7 +42,7 @@ pub times-left : (a b c : ℕ) → times63 a (times63 b c) ≡ times63 b (times6
 times-left a b c = past-factor byZ byZ-plus (times63 a) (times-plus a) (rows-up byZ byZ-plus 63 a) 63 b c
 
 pub times-one : (a : ℕ) → a < 2 ^ 63 → times63 a 1 ≡ a
-times-one a h = rows-one 63 a (lit≤ tt) ∙ mod-eq-of-lt h
+times-one a h = rows-by-one 63 a (lit≤ tt) ∙ mod-eq-of-lt h
 
 pub times-comm : (a b : ℕ) → a < 2 ^ 63 → b < 2 ^ 63 → times63 a b ≡ times63 b a
 times-comm a b ha hb =

@@ -1,9 +1,8 @@
--- A product from the highest coefficients down, a few at a time. Assumes nothing.
-use mathlib.Core.Path.{_≡_, refl, sym, ap, ap₂, _∙_}
+-- The rows of some coefficients, and of those above them. Assumes nothing.
+use mathlib.Core.Path.{_≡_, sym, ap, ap₂, _∙_}
 use Prim.Native.Nat.{ℕ, zero, suc, _+_, _*_, _/_, _%_, _^_, _<_}
 use native.Mathlib.Nat.{zero-add, suc-add, zero-mul, div-one, div-eq-of-lt}
 use native.Mathlib.Numerals.{add-one, one-add}
-use native.Mathlib.Omega.{arith}
 use lib.Bits.{bitXor, xor-zero-r, xor-assoc, xor-comm}
 use lib.Pow.{shr-shr}
 use Rattle.b63.specs.Binary.{byZ, byPower, rows}
@@ -33,12 +32,6 @@ rows-push j a b =
 -- a has no coefficient from z^k up
 pub rows-spare : (k a b : ℕ) → a < 2 ^ k → rows byZ (suc k) a b ≡ rows byZ k a b
 rows-spare k a b h = rows-push k a b ∙ simp (div-eq-of-lt h, zero-mul, xor-zero-r)
-
-pub four-rows : (a b : ℕ) → rows byZ 4 a b ≡ bitXor
-    (bitXor (bitXor ((a / 2 ^ 0 % 2) * b) ((a / 2 ^ 1 % 2) * byPower 1 b)) ((a / 2 ^ 2 % 2) * byPower 2 b))
-    ((a / 2 ^ 3 % 2) * byPower 3 b)
-four-rows a b =
-    rw (rows-push 3 a b, rows-push 2 a b, rows-push 1 a b, rows-push 0 a b) (unfold rows byPower in refl)
 
 -- one turn: z^j times what the coefficients above give, and the next j of them
 pub window-more : (j k a b : ℕ)

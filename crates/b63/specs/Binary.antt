@@ -26,8 +26,8 @@ unfoldable pub byPower : ℕ → ℕ → ℕ
 byPower zero a = a
 byPower (suc j) a = byPower j (byZ a)
 
--- a product by rows, a row for each of the k lowest coefficients of a: the constant one times b, and the others times
--- z times b, where `up` takes a number times z
+-- a product by rows, where `up` takes a number times z: for each of the k lowest coefficients of a, from the constant
+-- one up, the coefficient times b, and then z times b in place of b
 unfoldable pub rows : (ℕ → ℕ) → ℕ → ℕ → ℕ → ℕ
 rows up zero a b = 0
 rows up (suc k) a b = plus ((a % 2) * b) (rows up k (a / 2) (up b))

@@ -5,9 +5,11 @@ ghost use Prim.Native.Nat.{_*_, _/_, _%_, _^_, _<_};
 ghost use Rattle.b63.specs.Binary.{b63, byPower, means63, times63, Remainder};
 use field::Field;
 
+// The 63 coefficients of an element.
 const LOW: u64 = 0x7fff_ffff_ffff_ffff;
 
-// z^j times `x`: what comes to z^63 and above comes to z + 1 times as much at the bottom.
+// z^j times `x`. The j highest coefficients come to z^63 and above; since z^63 is z + 1, they are added at the bottom,
+// and once more one place up.
 fn by_power(j: u32, x: u64) -> u64
     requires { ⌜ j < 63 ⌝ ∗ ⌜ x < 2 ^ 63 ⌝ }
     ensures { λ r. ⌜ r ≡ byPower j x ⌝ }
@@ -16,7 +18,7 @@ fn by_power(j: u32, x: u64) -> u64
     ((x << j) & LOW) ^ top ^ (top << 1)
 }
 
-// Coefficient i of `x`, times `y`.
+// Coefficient i of `x`, times `y`: all bits of `y`, or none.
 fn row(x: u64, i: u32, y: u64) -> u64
     requires { ⌜ i < 64 ⌝ }
     ensures { λ r. ⌜ r ≡ (x / 2 ^ i % 2) * y ⌝ }
@@ -47,7 +49,7 @@ pub impl Field for B63 as B63Field {
     ghost model = { b63 };
 
     fn order() -> u64 {
-        0x8000_0000_0000_0000
+        1 << 63
     }
 
     fn sum(a: u64, b: u64) -> u64 {

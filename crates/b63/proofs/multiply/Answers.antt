@@ -1,13 +1,12 @@
-use mathlib.Core.Path.{_≡_, refl, sym, ap, ap₂, _∙_}
-use Prim.Native.Nat.{ℕ, _+_, _-_, _*_, _/_, _^_, _<_}
+use mathlib.Core.Path.{_≡_, refl, ap, _∙_}
+use Prim.Native.Nat.{ℕ, _-_, _*_, _/_, _^_}
 use native.Mathlib.Nat.{div-one}
 use native.Mathlib.Omega.{arith}
 use lib.Dec.{lit<}
-use lib.Bits.{bitXor}
-use lib.Pow.{shr-shr}
-use Rattle.b63.specs.Binary.{byZ, byPower, rows, times63}
+use Rattle.b63.specs.Binary.{byZ, rows}
 use Rattle.b63.proofs.Product.{rows-lt}
-use Rattle.b63.proofs.Window.{four-rows, rows-spare, window-more}
+use Rattle.b63.proofs.Window.{rows-spare}
+use Rattle.b63.proofs.Fours.{four-rows, four-more}
 use Rattle.b63.proofs.multiply.Needs as need
 
 pub by-power-requires : need.by-power-requires
@@ -22,14 +21,11 @@ loop-i-again c =
     let x : ℕ = c .args .x in
     let y : ℕ = c .args .y in
     let i : ℕ = c .loop-i .i in
-    let k : ℕ = 64 - 4 * i in
-    let here : ℕ = x / 2 ^ (4 * (i - 1)) in
-    let back : 4 * (i - 1) + 4 ≡ 4 * i = omega arith in
-    let above : here / 2 ^ 4 ≡ x / 2 ^ (4 * i) = shr-shr x (4 * (i - 1)) 4 ∙ ap (λ (n : ℕ). x / 2 ^ n) back in
-    let more : 4 + k ≡ 64 - 4 * (i - 1) = omega arith in
-    let turn = window-more 4 k here y in
-    let rows = four-rows here y in
-    cc
+    four-more i x y (c .loop-i-test .taken) (c .loop-i .kept .i) (c .loop-i .inv)
+    (c .by-power .ensures)
+    (four-rows (x / 2 ^ (4 * (i - 1))) y
+    (c .by-power-yz .ensures) (c .by-power-yz2 .ensures) (c .by-power-yz3 .ensures)
+    (c .row .ensures) (c .row-in-loop-i .ensures) (c .row-in-loop-i-2 .ensures) (c .row-in-loop-i-3 .ensures))
 
 pub returns : need.returns
 returns c =

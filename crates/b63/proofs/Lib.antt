@@ -1,0 +1,9 @@
+mod Xor
+mod Bit
+mod Rows
+mod ByZ
+mod Product
+mod Power
+mod Window
+mod Fours
+mod Remainder

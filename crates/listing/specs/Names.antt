@@ -9,11 +9,13 @@ use Rattle.std.specs.declared.option.Option.{Option}
 use Rattle.std.specs.declared.option.Option.the-variants.{Some, None}
 use Rattle.field.specs.Model.{Model}
 use Rattle.m61.specs.Mersenne.{m61}
+use Rattle.b63.specs.Binary.{b63}
 use Rattle.listing.specs.declared.answer.FieldName.{FieldName}
-use Rattle.listing.specs.declared.answer.FieldName.the-variants.{M61}
+use Rattle.listing.specs.declared.answer.FieldName.the-variants.{M61, B63}
 
 abbrev pub model-of : FieldName → Model
 model-of M61 = m61
+model-of B63 = b63
 
 abbrev pub named : Option FieldName → Option Model
 named f = mapped model-of f

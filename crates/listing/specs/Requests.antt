@@ -11,6 +11,7 @@ use Rattle.refusal.specs.Outcomes.{Cause, _when_, Outcome, refuses, decided}
 use Rattle.bytes.specs.Numbers.{number}
 use Rattle.field.specs.Model.{Model}
 use Rattle.m61.specs.Mersenne.{m61}
+use Rattle.b63.specs.Binary.{b63}
 use Rattle.hash.specs.Hash.{hash-outcome}
 
 abbrev pub hash-kind : ℕ
@@ -21,7 +22,7 @@ most-subkeys = 8
 
 -- the field that a field byte names
 abbrev pub field-named : ℕ → Option Model
-field-named byte = cond (eqb byte 0) (Some m61) None
+field-named byte = cond (eqb byte 0) (Some m61) (cond (eqb byte 1) (Some b63) None)
 
 -- n numbers of eight bytes
 abbrev pub subkeys : ℕ → List ℕ → List ℕ

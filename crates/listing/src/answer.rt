@@ -8,6 +8,8 @@ ghost use Rattle.hash.specs.Hash.{hash-outcome};
 ghost use Rattle.listing.specs.Requests.{field-named, subkeys, request-outcome};
 ghost use Rattle.listing.specs.Lines.{seen};
 ghost use Rattle.listing.specs.Names.{named, subkeys-read, model-of};
+use b63::B63;
+use b63::B63Field;
 use bytes::take_u8;
 use bytes::take_u64;
 use hash::hash;
@@ -23,6 +25,7 @@ const MOST_SUBKEYS: usize = 8;
 #[derive(Clone, Copy)]
 pub enum FieldName {
     M61,
+    B63,
 }
 
 fn field_named(byte: u8) -> Option<FieldName>
@@ -30,6 +33,7 @@ fn field_named(byte: u8) -> Option<FieldName>
 {
     match byte {
         0 => Some(FieldName::M61),
+        1 => Some(FieldName::B63),
         _ => None,
     }
 }
@@ -55,6 +59,7 @@ fn hash_over(field: FieldName, ring: &[u64], text: &[u8]) -> Result<u64, Refusal
 {
     match field {
         FieldName::M61 => hash::<M61>(ring, text),
+        FieldName::B63 => hash::<B63>(ring, text),
     }
 }
 

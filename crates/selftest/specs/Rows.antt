@@ -8,6 +8,7 @@ use Rattle.std.specs.shelf.Lists.{All}
 use Rattle.refusal.specs.Outcomes.{Outcome, gives, refuses}
 use Rattle.field.specs.Model.{Model}
 use Rattle.m61.specs.Mersenne.{m61}
+use Rattle.b63.specs.Binary.{b63}
 use Rattle.hash.specs.Hash.{hash-outcome}
 
 pub record Row : Type 0 where
@@ -28,6 +29,10 @@ rows =
     ∷ row m61 ((2 ^ 61 - 2) ∷ []) (1 ∷ []) 0
     -- two blocks: (1 * 3 + 2) * 3 + 8
     ∷ row m61 (3 ∷ []) (1 ∷ 0 ∷ 0 ∷ 0 ∷ 0 ∷ 0 ∷ 0 ∷ 2 ∷ []) 23
+    -- the same without carries: (1 * 3 + 2) * 3 is 3, and 8 is added to it
+    ∷ row b63 (3 ∷ []) (1 ∷ 0 ∷ 0 ∷ 0 ∷ 0 ∷ 0 ∷ 0 ∷ 2 ∷ []) 11
+    -- z * z^62 is z + 1, and 1 is added to it
+    ∷ row b63 ((2 ^ 62) ∷ []) (2 ∷ []) 2
     -- 4 * 2 ^ 60 is 2 ^ 62, which means 2
     ∷ row m61 ((2 ^ 60) ∷ []) (4 ∷ []) 3
     -- the second byte counts 256

@@ -1,0 +1,3 @@
+mod Domain
+mod Roots
+mod Differences

@@ -1,3 +1,6 @@
 mod Domain
 mod Roots
 mod Differences
+mod Horner
+mod Behind
+mod OneSubkey

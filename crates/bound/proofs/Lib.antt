@@ -4,3 +4,8 @@ mod Differences
 mod Horner
 mod Behind
 mod OneSubkey
+mod Apart
+mod Members
+mod Sums
+mod Rings
+mod Places

@@ -9,3 +9,7 @@ mod Members
 mod Sums
 mod Rings
 mod Places
+mod Elements
+mod Agreement
+mod Texts
+mod Chunks

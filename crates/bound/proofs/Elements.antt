@@ -20,7 +20,7 @@ El m = (x : ℕ) × Element m x
 pub same : (m : Model) (x y : El m) → x .0 ≡ y .0 → x ≡ y
 same m x y e = Σ-prop-path (λ (k : ℕ). le-prop {n = suc k} {m = m .size}) {u = x} {v = y} e
 
-module _ (m : Model) (F : FieldLaws m) where
+module _ {m : Model} (F : FieldLaws m) where
   -- the element that a number means
   pub el : ℕ → El m
   el x = (m .means x, F .means-below x)

@@ -4,6 +4,7 @@ mod Differences
 mod Horner
 mod Behind
 mod OneSubkey
+mod Each
 mod Apart
 mod Members
 mod Sums
@@ -13,3 +14,4 @@ mod Elements
 mod Agreement
 mod Texts
 mod Chunks
+mod Hashes

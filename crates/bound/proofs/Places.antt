@@ -43,6 +43,14 @@ put-behind (suc c) k [] i h above = absurd (omega arith)
 put-behind (suc c) k (x ∷ r) zero h above = absurd (omega arith)
 put-behind (suc c) k (x ∷ r) (suc i) h above = put-behind c k r i (omega arith) (omega arith)
 
+pub put-other : (c k k′ : ℕ) (r : List ℕ) (i : ℕ) → c ≤ length r → i ≢ c → getD (put c k r) i 0 ≡ getD (put c k′ r) i 0
+unfolding put
+put-other zero k k′ r zero h i≢c = absurd (i≢c refl)
+put-other zero k k′ r (suc i) h i≢c = refl
+put-other (suc c) k k′ [] i h i≢c = absurd (omega arith)
+put-other (suc c) k k′ (x ∷ r) zero h i≢c = refl
+put-other (suc c) k k′ (x ∷ r) (suc i) h i≢c = put-other c k k′ r i (omega arith) (λ e. i≢c (ap suc e))
+
 module _ (keys : List ℕ) where
   sum-put : (f : List ℕ → ℕ) (c n : ℕ) → c ≤ n →
       sum f (rings keys (suc n)) ≡ sum (λ r. sum (λ k. f (put c k r)) keys) (rings keys n)

@@ -8,7 +8,8 @@ use native.Mathlib.Omega.{arith}
 use lib.ListN.{length}
 use Rattle.std.specs.shelf.Lists.{All, joined}
 use Rattle.bound.specs.Counting.{Distinct}
-use Rattle.bound.proofs.Apart.{all-joined, distinct-joined}
+use Rattle.bound.proofs.Each.{all-joined}
+use Rattle.bound.proofs.Apart.{distinct-joined}
 use Rattle.bound.proofs.Members.{Member, member-left, member-right, member-map}
 use Rattle.bound.proofs.Sums.{sum, sum-same, sum-const, sum-joined}
 

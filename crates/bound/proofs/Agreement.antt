@@ -1,6 +1,7 @@
 -- Two functions of a key that are different polynomials agree at no more keys than their degree. Assumes nothing.
 use mathlib.Core.Path.{_≡_, sym, _∙_}
-use mathlib.Core.List.{List}
+use mathlib.Core.Logic.{_≢_}
+use mathlib.Core.List.{List, _∷_}
 use mathlib.Core.Bool.{Bool, true}
 use Prim.Native.Nat.{ℕ, suc, _≤_}
 use native.Mathlib.Decide.{decLe}
@@ -13,7 +14,7 @@ use Rattle.std.proofs.shelf.Tests.{eqb-true}
 use Rattle.field.specs.Model.{Model}
 use Rattle.field.specs.Laws.{Element}
 use Rattle.bound.specs.Counting.{Distinct}
-use Rattle.bound.proofs.Domain.{Domain}
+use Rattle.bound.proofs.Domain.{Domain, minus-zero}
 use Rattle.bound.proofs.Roots.{eval, Zeros}
 use Rattle.bound.proofs.Differences.{minus, same-coefficients}
 use Rattle.bound.proofs.Elements.{El, same, els, els-length, els-all, els-distinct}
@@ -59,3 +60,12 @@ module _ (m : Model) {𝟘 𝟙 : El m} {plus times : El m → El m → El m} {n
           els-all m (λ k. agrees k ≡ true) (λ x. eval D ps x ≡ eval D qs x)
           (λ x e. same m _ _ (sym (f-is x) ∙ eqb-true _ _ e ∙ g-is x))
           kept kept-elements (kept-by-passes agrees keys)
+
+  -- and so where only the constant coefficients are known to differ
+  pub seldom-by-constants : (keys : List ℕ) → Distinct keys → All (Element m) keys → (d : ℕ) (f g : ℕ → ℕ) →
+      (v w : El m) (ps qs : List (El m)) → Is f (v ∷ ps) → Is g (w ∷ qs) → length ps ≤ d → length qs ≤ d → v ≢ w →
+      sum (λ k. one-if (eqb (f k) (g k))) keys ≤ d
+  unfolding minus
+  seldom-by-constants keys distinct elements d f g v w ps qs f-is g-is hp hq v≢w =
+      agree-seldom keys distinct elements d f g (v ∷ ps) (w ∷ qs) f-is g-is (omega arith) (omega arith)
+      (λ zeros. v≢w (minus-zero D v w (zeros .0)))

@@ -15,3 +15,8 @@ mod Agreement
 mod Texts
 mod Chunks
 mod Hashes
+mod HashPolynomial
+mod LastChunk
+mod SameChunks
+mod MoreChunks
+mod SameLength

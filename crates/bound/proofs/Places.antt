@@ -3,7 +3,7 @@ use mathlib.Core.Path.{_≡_, refl, sym, ap, ap₂, _∙_}
 use mathlib.Core.Logic.{_≢_}
 use mathlib.Core.List.{List, [], _∷_}
 use Prim.Native.Nat.{ℕ, zero, suc, _+_, _*_, _^_, _≤_, _<_, zero-le}
-use native.Mathlib.Nat.{pow-suc, mul-le-mul-right}
+use native.Mathlib.Nat.{pow-suc, zero-mul, mul-le-mul-right}
 use native.Mathlib.Omega.{arith}
 use lib.ListN.{length, getD}
 use lib.Dec.{eqb}
@@ -72,6 +72,15 @@ module _ (keys : List ℕ) where
       total =
           sum-add (λ r. d) (λ r. w r * length keys) (rings keys n)
           ∙ ap₂ _+_ (sum-rings-const keys d n) (sum-scale w (length keys) (rings keys n))
+
+  pub place-bound-even : (P : ℕ → Type 0) → All P keys → (c n d : ℕ) → c ≤ n → (f : List ℕ → ℕ) →
+      ((r : List ℕ) → length r ≡ n → All P r → sum (λ k. f (put c k r)) keys ≤ d) →
+      sum f (rings keys (suc n)) ≤ d * length keys ^ n
+  place-bound-even P all c n d h f each =
+      omega (arith, place-bound P all c n d h f (λ r. 0) (λ r l p. omega (arith, each r l p)), none)
+    where
+      none : sum (λ r. 0) (rings keys n) * length keys ≡ 0
+      none = ap (λ s. s * length keys) (sum-rings-const keys 0 n ∙ zero-mul _) ∙ zero-mul (length keys)
 
 -- how many of the subkeys are zero
 abbrev pub zeros : List ℕ → ℕ

@@ -16,7 +16,7 @@ use Rattle.bound.proofs.Horner.{run}
 use Rattle.bound.proofs.OneSubkey.{Differs-at, constant, others, run-polynomial}
 use Rattle.bound.proofs.Elements.{El, el, el-of, plus, domain}
 use Rattle.bound.proofs.Agreement.{Is}
-use Rattle.bound.proofs.Places.{put, put-all, put-at, put-other}
+use Rattle.bound.proofs.Put.{put, put-all, put-at, put-other}
 use Rattle.bound.proofs.Chunks.{Cut, chunk-before, chunk-within, chunk-behind}
 use Rattle.bound.proofs.Hashes.{blocks, subkeys, hash-value}
 

@@ -19,7 +19,7 @@ use Rattle.bound.proofs.OneSubkey.{others-length, last-constant}
 use Rattle.bound.proofs.Elements.{El, el, el-own, plus, domain}
 use Rattle.bound.proofs.Agreement.{Is, seldom-by-constants}
 use Rattle.bound.proofs.Sums.{sum, one-if}
-use Rattle.bound.proofs.Places.{put}
+use Rattle.bound.proofs.Put.{put}
 use Rattle.bound.proofs.Chunks.{Cut, fullest, cut-fullest, cut-last}
 use Rattle.bound.proofs.Hashes.{blocks}
 use Rattle.bound.proofs.HashPolynomial.{rest, entry, constant-of, others-of, hash-polynomial}

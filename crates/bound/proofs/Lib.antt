@@ -9,7 +9,9 @@ mod Apart
 mod Members
 mod Sums
 mod Rings
+mod Put
 mod Places
+mod Zeros
 mod Elements
 mod Agreement
 mod Texts
@@ -20,3 +22,5 @@ mod LastChunk
 mod SameChunks
 mod MoreChunks
 mod SameLength
+mod Keys
+mod Counts

@@ -19,7 +19,8 @@ use Rattle.bound.specs.Counting.{Distinct}
 use Rattle.bound.specs.Bound.{Only-zero-makes-zero, Text}
 use Rattle.bound.proofs.Sums.{sum, sum-same, one-if, count-le}
 use Rattle.bound.proofs.Rings.{rings, sum-rings-const}
-use Rattle.bound.proofs.Places.{put, put-before, place-bound, place-bound-even}
+use Rattle.bound.proofs.Put.{put, put-before}
+use Rattle.bound.proofs.Places.{place-bound, place-bound-even}
 use Rattle.bound.proofs.Chunks.{fullest}
 use Rattle.bound.proofs.Hashes.{length-element, hash-element}
 use Rattle.bound.proofs.LastChunk.{number-begins, hash-begins, begin-apart}

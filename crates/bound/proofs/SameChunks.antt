@@ -16,7 +16,8 @@ use Rattle.bound.specs.Counting.{Distinct}
 use Rattle.bound.specs.Bound.{Only-zero-makes-zero, Text}
 use Rattle.bound.proofs.Sums.{sum, one-if}
 use Rattle.bound.proofs.Rings.{rings}
-use Rattle.bound.proofs.Places.{put, place-bound-even}
+use Rattle.bound.proofs.Put.{put}
+use Rattle.bound.proofs.Places.{place-bound-even}
 use Rattle.bound.proofs.Chunks.{fullest}
 use Rattle.bound.proofs.Hashes.{length-element}
 use Rattle.bound.proofs.LastChunk.{hash-begins, begin-apart}

@@ -1,14 +1,13 @@
 -- Two different texts of one length: the subkey of the first chunk that differs makes them differ, if no other is zero. Assumes nothing.
 use mathlib.Core.Path.{_≡_, refl, sym, ap, subst, _∙_}
 use mathlib.Core.Logic.{_≢_}
-use mathlib.Core.List.{List, [], _∷_}
+use mathlib.Core.List.{List}
 use Prim.Native.Nat.{ℕ, zero, suc, _+_, _-_, _*_, _^_, _<_, _≤_}
 use native.Mathlib.Omega.{arith}
 use lib.ListN.{length, getD}
 use lib.Dec.{eqb}
 use Rattle.std.specs.shelf.Lists.{All}
 use Rattle.std.proofs.shelf.Elements.{all-getD}
-use Rattle.std.proofs.shelf.Tests.{eq-eqb}
 use Rattle.field.specs.Model.{Model}
 use Rattle.field.specs.Laws.{Element, FieldLaws}
 use Rattle.hash.specs.Texts.{chunk-blocks, block, block-count, chunk-count, chunk-of}
@@ -21,21 +20,16 @@ use Rattle.bound.proofs.Horner.{run-same}
 use Rattle.bound.proofs.OneSubkey.{others-length, same-blocks}
 use Rattle.bound.proofs.Elements.{El, el, el-own, 𝟘, one-is-not-zero, domain}
 use Rattle.bound.proofs.Agreement.{agree-seldom}
-use Rattle.bound.proofs.Sums.{sum, one-if, count-le}
+use Rattle.bound.proofs.Sums.{sum, count-le}
 use Rattle.bound.proofs.Rings.{rings}
-use Rattle.bound.proofs.Places.{put, put-all, put-behind, place-bound, zeros, zeros-bound}
+use Rattle.bound.proofs.Put.{put, put-all, put-behind}
+use Rattle.bound.proofs.Places.{place-bound}
+use Rattle.bound.proofs.Zeros.{zeros, no-zero, zeros-bound}
 use Rattle.bound.proofs.Texts.{First-difference, first-other-block}
 use Rattle.bound.proofs.Chunks.{Cut, fullest, cut-fullest, cut-at, cut-same-length, chunk-behind}
 use Rattle.bound.proofs.Hashes.{blocks, block-element, subkey-element}
 use Rattle.bound.proofs.HashPolynomial.{rest, entry, others-of, coefficients, hash-polynomial}
 use Rattle.bound.proofs.SameChunks.{meets}
-
-no-zero : (r : List ℕ) → zeros r ≡ 0 → All (λ k. k ≢ 0) r
-no-zero [] none = tt
-no-zero (k ∷ r) none = (nonzero, no-zero r (omega arith))
-  where
-    nonzero : k ≢ 0
-    nonzero z = let one : one-if (eqb k 0) ≡ 1 = ap one-if (eq-eqb k 0 z) in omega arith
 
 module _ {m : Model} (F : FieldLaws m) (Z : Only-zero-makes-zero m) where
   -- the subkeys behind chunk c are not zero, if none of the ring is
@@ -101,10 +95,10 @@ module _ {m : Model} (F : FieldLaws m) (Z : Only-zero-makes-zero m)
   -- block j is the first that differs, in the chunk of i blocks with l blocks behind it
   from-first : (j : ℕ) → j < block-count a → First-difference (block a) (block b) j →
       (i l : ℕ) → Cut a (chunk-of j) i l → j < chunk-blocks * chunk-of j + i →
-      (n : ℕ) → chunk-count a ≡ suc n → (d : ℕ) → fullest a ≤ d → zeros keys ≤ 1 →
+      (n : ℕ) → chunk-count a ≡ suc n → (d : ℕ) → fullest a ≤ d →
       sum (meets m a b) (rings keys (suc n)) ≤ (d + n) * length keys ^ n
-  from-first j j<count (differ, before) i l cut inside n cn d most once =
-      omega (arith, zeros-bound keys once n,
+  from-first j j<count (differ, before) i l cut inside n cn d most =
+      omega (arith, zeros-bound keys distinct n,
       place-bound keys (Element m) elements c n d (omega arith) (meets m a b) zeros each)
     where
       c : ℕ
@@ -128,7 +122,7 @@ module _ {m : Model} (F : FieldLaws m) (Z : Only-zero-makes-zero m)
           go (suc z) some =
               omega (arith, count-le (λ k. eqb (hash-of m (put c k r) a) (hash-of m (put c k r) b)) keys)
 
-  pub same-length-bound : a ≢ b → (n : ℕ) → chunk-count a ≡ suc n → (d : ℕ) → fullest a ≤ d → zeros keys ≤ 1 →
+  pub same-length-bound : a ≢ b → (n : ℕ) → chunk-count a ≡ suc n → (d : ℕ) → fullest a ≤ d →
       sum (meets m a b) (rings keys (suc n)) ≤ (d + n) * length keys ^ n
   same-length-bound a≢b =
       let (j, j<count, first) = first-other-block a b same-length (ta .1) (tb .1) a≢b in

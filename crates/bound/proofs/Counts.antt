@@ -13,9 +13,11 @@ use Rattle.bound.proofs.Members.{Member, member-kept, no-longer}
 use Rattle.bound.proofs.Sums.{sum, one-if, kept-length}
 use Rattle.bound.proofs.Rings.{rings, rings-member}
 
-pub at-most-fewer : {X : Type 0} (P Q : X → Type 0) (j k : ℕ) → ((x : X) → P x → Q x) → j ≤ k → At-most j Q → At-most k P
-at-most-fewer P Q j k weaker le at-most xs distinct all =
-    le-trans (at-most xs distinct (all-weaker P Q weaker xs all)) le
+pub at-most-fewer : {X : Type 0} (P Q : X → Type 0) (k : ℕ) → ((x : X) → P x → Q x) → At-most k Q → At-most k P
+at-most-fewer P Q k weaker at-most xs distinct all = at-most xs distinct (all-weaker P Q weaker xs all)
+
+pub at-most-up : {X : Type 0} (P : X → Type 0) (j k : ℕ) → j ≤ k → At-most j P → At-most k P
+at-most-up P j k le at-most xs distinct all = le-trans (at-most xs distinct all) le
 
 -- a ring of c subkeys, each of them good, that passes
 abbrev pub Passes : (ℕ → Type 0) → ℕ → (List ℕ → Bool) → List ℕ → Type 0

@@ -22,5 +22,8 @@ mod LastChunk
 mod SameChunks
 mod MoreChunks
 mod SameLength
+mod Longer
 mod Keys
 mod Counts
+mod EitherOrder
+pub mod Theorem

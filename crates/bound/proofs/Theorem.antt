@@ -1,0 +1,80 @@
+-- The collision bound, over any field. Assumes nothing.
+use mathlib.Core.Path.{_≡_, refl, sym, ap, subst, _∙_}
+use mathlib.Core.Logic.{_≢_}
+use mathlib.Core.List.{List}
+use Prim.Native.Nat.{ℕ, zero, suc, _+_, _-_, _*_, _^_, _<_, _≤_, max}
+use native.Mathlib.Nat.{le-refl, le-trans, one-mul, mul-le-mul-right}
+use native.Mathlib.Omega.{arith}
+use lib.ListN.{length}
+use Rattle.std.specs.Iters.{counting}
+use Rattle.std.specs.shelf.Lists.{All}
+use Rattle.std.proofs.shelf.Counted.{length-counting}
+use Rattle.std.proofs.shelf.Elements.{all-weaker}
+use Rattle.field.specs.Model.{Model}
+use Rattle.field.specs.Laws.{Element, FieldLaws}
+use Rattle.hash.specs.Texts.{chunk-count}
+use Rattle.hash.specs.Hash.{hash-of}
+use Rattle.bound.specs.Counting.{Distinct, At-most, Exactly}
+use Rattle.bound.specs.Bound.{Only-zero-makes-zero, Text, Ring, chunks, Shares, Collision-bound}
+use Rattle.bound.proofs.Each.{all-both}
+use Rattle.bound.proofs.Members.{Member, no-longer}
+use Rattle.bound.proofs.Rings.{rings, rings-all, rings-distinct, rings-length, rings-member}
+use Rattle.bound.proofs.Keys.{counting-within, counting-distinct, counting-member}
+use Rattle.bound.proofs.Counts.{at-most-fewer, at-most-up}
+use Rattle.bound.proofs.Longer.{widest}
+use Rattle.bound.proofs.EitherOrder.{Few-meetings, either-order}
+
+rings-in-all : (m : Model) (c : ℕ) → Exactly (m .size ^ c) (Ring m c)
+rings-in-all m c = (
+  (λ rs distinct all. subst (λ n. length rs ≤ n) size
+      (no-longer rs (rings all-keys c) distinct (all-weaker (Ring m c) (Member (rings all-keys c)) member rs all))),
+  (rings all-keys c, rings-distinct all-keys (counting-distinct 0 (m .size)) c, rings-all all-keys (Element m) below c, size),
+)
+  where
+    all-keys : List ℕ
+    all-keys = counting 0 (m .size)
+
+    below : All (Element m) all-keys
+    below = all-weaker _ (Element m) (λ k h. omega arith) all-keys (counting-within 0 (m .size))
+
+    size : length (rings all-keys c) ≡ m .size ^ c
+    size = rings-length all-keys c ∙ ap (λ n. n ^ c) (length-counting 0 (m .size))
+
+    member : (r : List ℕ) → Ring m c r → Member (rings all-keys c) r
+    member r (l, elements) =
+        rings-member all-keys c r l
+        (all-weaker (Element m) (Member all-keys) (λ k h. counting-member 0 (m .size) k (omega arith) (omega arith)) r elements)
+
+module _ {m : Model} (F : FieldLaws m) (Z : Only-zero-makes-zero m) where
+  -- where the good subkeys are n numbers from lo on
+  of-counting : (lo n : ℕ) → lo + n ≤ m .size → (Good : ℕ → Type 0) → ((k : ℕ) → Good k → (lo ≤ k) × (k < lo + n)) →
+      (a b : List ℕ) → Text a → Text b → a ≢ b → Few-meetings m Good n a b (chunks a b)
+  of-counting lo n room Good within a b ta tb a≢b =
+      subst (λ K. Few-meetings m Good K a b (chunks a b)) (length-counting lo n)
+      (either-order F Z (counting lo n) (counting-distinct lo n) elements Good listed a b ta tb a≢b)
+    where
+      elements : All (Element m) (counting lo n)
+      elements = all-weaker _ (Element m) (λ k h. omega (arith, h .1)) (counting lo n) (counting-within lo n)
+
+      listed : (k : ℕ) → Good k → Member (counting lo n) k
+      listed k good = counting-member lo n k (within k good .0) (within k good .1)
+
+  of-all : (a b : List ℕ) → Text a → Text b → a ≢ b → Few-meetings m (Element m) (m .size) a b (chunks a b)
+  of-all = of-counting 0 (m .size) (omega arith) (Element m) (λ k h. (omega arith, omega arith))
+
+  of-nonzero : (a b : List ℕ) → Text a → Text b → a ≢ b →
+      Few-meetings m (λ k. Element m k × (k ≢ 0)) (m .size - 1) a b (chunks a b)
+  of-nonzero =
+      of-counting 1 (m .size - 1) (omega (arith, F .many)) (λ k. Element m k × (k ≢ 0))
+      (λ k h. (omega (arith, h .1), omega (arith, h .0)))
+
+  pub collision-bound : Collision-bound m
+  collision-bound = record {
+    rings = rings-in-all m;
+    few = λ a b ta tb a≢b. at-most-up (Shares m a b) _ _
+      (mul-le-mul-right (m .size ^ (chunks a b - 1)) (omega arith)) (of-all a b ta tb a≢b .0);
+    few-in-one-chunk = λ a b ta tb a≢b e. at-most-up (Shares m a b) _ _ (omega arith) (of-all a b ta tb a≢b .1 e);
+    fewer = λ a b ta tb a≢b. of-all a b ta tb a≢b .0;
+    fewer-without-zero = λ a b ta tb a≢b. at-most-fewer _ _ _
+      (λ r h. ((h .0 .0 .0, all-both _ _ r (h .0 .0 .1) (h .1)), h .0 .1)) (of-nonzero a b ta tb a≢b .0);
+  }

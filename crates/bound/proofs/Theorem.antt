@@ -1,21 +1,24 @@
 -- The collision bound, over any field. Assumes nothing.
 use mathlib.Core.Path.{_≡_, refl, sym, ap, subst, _∙_}
 use mathlib.Core.Logic.{_≢_}
+use mathlib.Core.Bool.{Bool, true, false, cond}
 use mathlib.Core.List.{List}
 use Prim.Native.Nat.{ℕ, zero, suc, _+_, _-_, _*_, _^_, _<_, _≤_, max}
-use native.Mathlib.Nat.{le-refl, le-trans, one-mul, mul-le-mul-right}
+use native.Mathlib.Nat.{pow-zero, mul-le-mul-right}
 use native.Mathlib.Omega.{arith}
 use lib.ListN.{length}
+use lib.Dec.{eqb}
 use Rattle.std.specs.Iters.{counting}
 use Rattle.std.specs.shelf.Lists.{All}
 use Rattle.std.proofs.shelf.Counted.{length-counting}
 use Rattle.std.proofs.shelf.Elements.{all-weaker}
+use Rattle.std.proofs.shelf.Tests.{eqb-true}
 use Rattle.field.specs.Model.{Model}
 use Rattle.field.specs.Laws.{Element, FieldLaws}
 use Rattle.hash.specs.Texts.{chunk-count}
 use Rattle.hash.specs.Hash.{hash-of}
 use Rattle.bound.specs.Counting.{Distinct, At-most, Exactly}
-use Rattle.bound.specs.Bound.{Only-zero-makes-zero, Text, Ring, chunks, Shares, Collision-bound}
+use Rattle.bound.specs.Bound.{Only-zero-makes-zero, Text, Ring, chunks, Shares, Collision-bound, share, Share-at-most}
 use Rattle.bound.proofs.Each.{all-both}
 use Rattle.bound.proofs.Members.{Member, no-longer}
 use Rattle.bound.proofs.Rings.{rings, rings-all, rings-distinct, rings-length, rings-member}
@@ -78,3 +81,14 @@ module _ {m : Model} (F : FieldLaws m) (Z : Only-zero-makes-zero m) where
     fewer-without-zero = λ a b ta tb a≢b. at-most-fewer _ _ _
       (λ r h. ((h .0 .0 .0, all-both _ _ r (h .0 .0 .1) (h .1)), h .0 .1)) (of-nonzero a b ta tb a≢b .0);
   }
+
+  pub share-at-most : (k : ℕ) (a b : List ℕ) → k ≡ share (chunks a b) → Share-at-most m k a b
+  share-at-most k a b e ta tb a≢b = rw e (go (eqb (chunks a b) 1) refl)
+    where
+      go : (t : Bool) → eqb (chunks a b) 1 ≡ t →
+          At-most (cond t 1024 (2048 + chunks a b) * m .size ^ (chunks a b - 1)) (Shares m a b)
+      go true one =
+          let power = ap (λ c. m .size ^ (c - 1)) (eqb-true (chunks a b) 1 one) ∙ pow-zero (m .size) in
+          at-most-up (Shares m a b) 1024 _ (omega (arith, power))
+          (collision-bound .few-in-one-chunk a b ta tb a≢b (eqb-true (chunks a b) 1 one))
+      go false more = collision-bound .few a b ta tb a≢b

@@ -50,3 +50,7 @@ pub record Collision-bound (m : Model) : Type 0 where
 -- in how many of N rings at most two different texts share a hash, where the longer has c chunks
 abbrev pub share : ℕ → ℕ
 share c = cond (eqb c 1) 1024 (2048 + c)
+
+-- if the two texts differ, at most k in N rings give them the same hash
+abbrev pub Share-at-most : Model → ℕ → List ℕ → List ℕ → Type 0
+Share-at-most m k a b = Text a → Text b → a ≢ b → At-most (k * m .size ^ (chunks a b - 1)) (Shares m a b)

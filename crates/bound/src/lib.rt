@@ -1,14 +1,12 @@
 // How seldom two different texts share a hash, over any field.
 ghost use mathlib.Core.Path.{_≡_};
-ghost use mathlib.Core.Logic.{_≢_};
-ghost use Prim.Native.Nat.{_-_, _*_, _^_};
-ghost use Rattle.bound.specs.Counting.{At-most};
-ghost use Rattle.bound.specs.Bound.{Only-zero-makes-zero, Text, Shares, chunks, share, Collision-bound};
+ghost use Rattle.bound.specs.Bound.{Only-zero-makes-zero, chunks, share, Share-at-most, Collision-bound};
 use field::Field;
 
-// In how many of `F::order()` rings at most the two texts share a hash, if they differ.
+// In how many of `F::order()` rings at most the two texts have the same hash, if they differ.
 pub fn collisions<F: Field>(a: &[u8], b: &[u8]) -> u64
     ensures value { λ r. ⌜ r ≡ share (chunks (now (a .entry)) (now (b .entry))) ⌝ }
+    ensures meaning { λ r. ⌜ (Only-zero-makes-zero (F·Field .model) → Share-at-most (F·Field .model) r (now (a .entry)) (now (b .entry))) ⌝ }
     ensures bound { λ _. ⌜ (Only-zero-makes-zero (F·Field .model) → Collision-bound (F·Field .model)) ⌝ }
 {
     let chunks = hash::chunks(a).max(hash::chunks(b));

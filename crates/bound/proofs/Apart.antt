@@ -17,9 +17,10 @@ distinct-append (x ∷ xs) ys dx dy apart =
 pub distinct-map : {X Y : Type 0} (f : X → Y) → ((x y : X) → f x ≡ f y → x ≡ y) → (xs : List X) → Distinct xs →
     Distinct (map f xs)
 distinct-map f injective [] d = tt
-distinct-map f injective (x ∷ xs) d =
-    (all-map (λ y. f x ≢ y) f xs (all-weaker (λ y. x ≢ y) (λ y. f x ≢ f y) (λ y ne e. ne (injective x y e)) xs (d .0)),
-    distinct-map f injective xs (d .1))
+distinct-map f injective (x ∷ xs) d = (
+  all-map (λ y. f x ≢ y) f xs (all-weaker (λ y. x ≢ y) (λ y. f x ≢ f y) (λ y ne e. ne (injective x y e)) xs (d .0)),
+  distinct-map f injective xs (d .1),
+)
 
 pub distinct-joined : {X Y Z : Type 0} (g : X → Y → Z) →
     ((x x′ : X) (y y′ : Y) → g x y ≡ g x′ y′ → (x ≡ x′) × (y ≡ y′)) → (xs : List X) (ys : List Y) →

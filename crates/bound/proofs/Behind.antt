@@ -1,6 +1,6 @@
 -- What the blocks behind a chunk make of it: a multiple, and something added. Assumes nothing.
 use mathlib.Core.Path.{_≡_, sym, ap, ap₂, _∙_}
-use mathlib.Core.Logic.{_⊎_, inl, inr, _≢_}
+use mathlib.Core.Logic.{inl, inr, _≢_}
 use Prim.Native.Nat.{ℕ, zero, suc, _+_, _<_}
 use native.Mathlib.Nat.{add-zero, add-suc}
 use native.Mathlib.Omega.{arith}
@@ -10,7 +10,6 @@ use Rattle.bound.proofs.Horner.{run}
 module _ {E : Type 0} {𝟘 𝟙 : E} {_⊕_ _⊗_ : E → E → E} {⊖ : E → E} (D : Domain E 𝟘 𝟙 _⊕_ _⊗_ ⊖) where
   infixl 60 _⊕_
   infixl 70 _⊗_
-
   -- The l blocks from block e on make of any x a multiple of x, by this factor,
   unfoldable pub factor : (ℕ → E) → ℕ → ℕ → E
   factor κ e zero = 𝟙

@@ -2,7 +2,7 @@
 use mathlib.Core.Path.{_≡_, sym, ap, _∙_}
 use mathlib.Core.Logic.{_⊎_, inl, inr}
 use mathlib.Core.List.{List}
-use Prim.Native.Nat.{ℕ, suc, _+_, _-_, _*_, _/_, _≤_, _<_, min}
+use Prim.Native.Nat.{ℕ, suc, _+_, _-_, _*_, _≤_, _<_, min}
 use native.Mathlib.Decide.{decLe}
 use native.Mathlib.Omega.{arith}
 use lib.ListN.{length}
@@ -23,14 +23,19 @@ cut-fullest text c i l cut = omega arith
 
 pub cut-last : (text : List ℕ) (c : ℕ) → chunk-count text ≡ suc c → (i : ℕ) × Cut text c (suc i) 0
 cut-last text c e =
-    (block-count text - suc (chunk-blocks * c), record { whole = omega arith; fits = omega arith; full = inl (omega arith) })
+    let i = block-count text - suc (chunk-blocks * c) in
+    (i, record { whole = omega arith; fits = omega arith; full = inl (omega arith) })
 
 pub cut-at : (text : List ℕ) (j : ℕ) → j < block-count text →
     (i l : ℕ) × Cut text (chunk-of j) i l × (j < chunk-blocks * chunk-of j + i)
 cut-at text j h =
     elim (decLe (block-count text) (chunk-blocks * chunk-of j + chunk-blocks)) [
-      | yes last ↦ (block-count text - chunk-blocks * chunk-of j, 0, record { whole = omega arith; fits = omega arith; full = inl (omega arith) }, omega arith)
-      | no more ↦ (chunk-blocks, block-count text - (chunk-blocks * chunk-of j + chunk-blocks), record { whole = omega arith; fits = omega arith; full = inr (omega arith) }, omega arith)
+      | yes last ↦
+          let i = block-count text - chunk-blocks * chunk-of j in
+          (i, 0, record { whole = omega arith; fits = omega arith; full = inl (omega arith) }, omega arith)
+      | no more ↦
+          let l = block-count text - (chunk-blocks * chunk-of j + chunk-blocks) in
+          (chunk-blocks, l, record { whole = omega arith; fits = omega arith; full = inr (omega arith) }, omega arith)
     ]
 
 pub cut-same-length : (a b : List ℕ) (c i l : ℕ) → length a ≡ length b → Cut a c i l → Cut b c i l

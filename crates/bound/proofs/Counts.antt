@@ -4,11 +4,10 @@ use mathlib.Core.Bool.{Bool, true}
 use mathlib.Core.List.{List}
 use Prim.Native.Nat.{ℕ, _≤_}
 use native.Mathlib.Nat.{le-trans}
-use native.Mathlib.Omega.{arith}
 use lib.ListN.{length}
 use Rattle.std.specs.shelf.Lists.{All, kept-by}
 use Rattle.std.proofs.shelf.Elements.{all-weaker}
-use Rattle.bound.specs.Counting.{Distinct, At-most}
+use Rattle.bound.specs.Counting.{At-most}
 use Rattle.bound.proofs.Members.{Member, member-kept, no-longer}
 use Rattle.bound.proofs.Sums.{sum, one-if, kept-length}
 use Rattle.bound.proofs.Rings.{rings, rings-member}

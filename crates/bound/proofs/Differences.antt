@@ -1,4 +1,4 @@
--- Two polynomials over a domain that agree at more places than their degrees have the same coefficients. Assumes nothing.
+-- Two polynomials over a domain that agree at more places than their degree are the same. Assumes nothing.
 use mathlib.Core.Path.{_≡_, sym, ap, _∙_}
 use mathlib.Core.List.{List, [], _∷_}
 use Prim.Native.Nat.{ℕ, zero, suc, _≤_}
@@ -13,7 +13,6 @@ use Rattle.bound.proofs.Roots.{eval, Zeros, zeros-from-roots}
 module _ {E : Type 0} {𝟘 𝟙 : E} {_⊕_ _⊗_ : E → E → E} {⊖ : E → E} (D : Domain E 𝟘 𝟙 _⊕_ _⊗_ ⊖) where
   infixl 60 _⊕_
   infixl 70 _⊗_
-
   -- the coefficients of the difference; those that a shorter list lacks count as zero
   unfoldable pub minus : List E → List E → List E
   minus [] [] = []

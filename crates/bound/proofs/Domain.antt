@@ -16,7 +16,6 @@ pub record Domain (E : Type 0) (𝟘 𝟙 : E) (_⊕_ _⊗_ : E → E → E) (�
 module _ {E : Type 0} {𝟘 𝟙 : E} {_⊕_ _⊗_ : E → E → E} {⊖ : E → E} (D : Domain E 𝟘 𝟙 _⊕_ _⊗_ ⊖) where
   infixl 60 _⊕_
   infixl 70 _⊗_
-
   pub plus-left-comm : (x y z : E) → x ⊕ (y ⊕ z) ≡ y ⊕ (x ⊕ z)
   plus-left-comm x y z = sym (D .plus-assoc x y z) ∙ ap (λ w. w ⊕ z) (D .plus-comm x y) ∙ D .plus-assoc y x z
 

@@ -1,5 +1,5 @@
 -- Rings of good subkeys under which two different texts share a hash, whichever text is longer. Assumes nothing.
-use mathlib.Core.Path.{_≡_, refl, sym, subst, _∙_}
+use mathlib.Core.Path.{_≡_, sym, _∙_}
 use mathlib.Core.Logic.{_≢_}
 use mathlib.Core.Bool.{Bool}
 use mathlib.Core.List.{List}
@@ -21,7 +21,7 @@ use Rattle.bound.proofs.Members.{Member}
 use Rattle.bound.proofs.Sums.{sum}
 use Rattle.bound.proofs.Rings.{rings}
 use Rattle.bound.proofs.Counts.{at-most-fewer, at-most-up, Passes, at-most-sum}
-use Rattle.bound.proofs.SameChunks.{meets}
+use Rattle.bound.proofs.Meets.{meets}
 use Rattle.bound.proofs.Longer.{widest, longer}
 
 -- a ring of c good subkeys under which the texts have the same hash
@@ -50,9 +50,10 @@ module _ {m : Model} (F : FieldLaws m) (Z : Only-zero-makes-zero m)
       absurd (a≢b (nil-from-length a (omega arith) ∙ sym (nil-from-length b (omega arith))))
   first-longer a b ta tb a≢b (suc c) ca cb =
       let (few, few-in-one) = longer F Z keys distinct elements a b ta tb a≢b c ca cb in
-      let less : suc c - 1 ≡ c = omega arith in
-      (at-most-up (Meeting m Good a b (suc c)) _ _ (rw less few) (at-most-meets a b (suc c)),
-      λ e. at-most-up (Meeting m Good a b (suc c)) _ _ (few-in-one (omega arith)) (at-most-meets a b (suc c)))
+      let less : suc c - 1 ≡ c = omega arith in (
+        at-most-up (Meeting m Good a b (suc c)) _ _ (rw less few) (at-most-meets a b (suc c)),
+        λ e. at-most-up (Meeting m Good a b (suc c)) _ _ (few-in-one (omega arith)) (at-most-meets a b (suc c)),
+      )
 
   pub either-order : (a b : List ℕ) → Text a → Text b → a ≢ b →
       Few-meetings m Good (length keys) a b (chunks a b)
@@ -60,8 +61,9 @@ module _ {m : Model} (F : FieldLaws m) (Z : Only-zero-makes-zero m)
       elim (decLe (chunk-count b) (chunk-count a)) [
         | yes le ↦ first-longer a b ta tb a≢b (chunks a b) (omega arith) (omega arith)
         | no gt ↦
-          let (few, few-in-one) = first-longer b a tb ta (λ e. a≢b (sym e)) (chunks a b) (omega arith) (omega arith) in
-          (turned few, λ e. at-most-up _ _ _ (omega arith) (turned (few-in-one e)))
+            let b≢a : b ≢ a = λ e. a≢b (sym e) in
+            let (few, few-in-one) = first-longer b a tb ta b≢a (chunks a b) (omega arith) (omega arith) in
+            (turned few, λ e. at-most-up _ _ _ (omega arith) (turned (few-in-one e)))
       ]
     where
       turned : {k : ℕ} → At-most k (Meeting m Good b a (chunks a b)) → At-most k (Meeting m Good a b (chunks a b))

@@ -15,7 +15,7 @@ use Rattle.bound.proofs.Roots.{eval}
 use Rattle.bound.proofs.Horner.{run}
 use Rattle.bound.proofs.OneSubkey.{Differs-at, constant, others, run-polynomial}
 use Rattle.bound.proofs.Elements.{El, el, el-of, plus, domain}
-use Rattle.bound.proofs.Agreement.{Is}
+use Rattle.bound.proofs.Agreement.{Is-polynomial}
 use Rattle.bound.proofs.Put.{put, put-all, put-at, put-other}
 use Rattle.bound.proofs.Chunks.{Cut, chunk-before, chunk-within, chunk-behind}
 use Rattle.bound.proofs.Hashes.{blocks, subkeys, hash-value}
@@ -54,7 +54,7 @@ module _ {m : Model} (F : FieldLaws m) (Z : Only-zero-makes-zero m) (c : ℕ) (r
       elsewhere j ne = ap (el F) (put-other c (k .0) 0 r (chunk-of j) place ne)
 
   pub hash-polynomial : c ≤ length r → All (Element m) r → (text : List ℕ) → Text text → (i l : ℕ) → Cut text c i l →
-      (X : El m) → entry text ≡ X → Is m (domain F Z) (λ k. hash-of m (put c k r) text) (coefficients text X i l)
+      (X : El m) → entry text ≡ X → Is-polynomial m (domain F Z) (λ k. hash-of m (put c k r) text) (coefficients text X i l)
   hash-polynomial place elements text t i l cut X start k =
       hash-value F Z (put c (k .0) r) text (put-all (Element m) c (k .0) r (k .1) elements) t
       ∙ ap (λ (x : El m). x .0) (ap to-the-end (cut .whole) ∙ polynomial)

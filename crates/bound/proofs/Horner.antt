@@ -11,7 +11,6 @@ use Rattle.bound.proofs.Roots.{eval}
 module _ {E : Type 0} {𝟘 𝟙 : E} {_⊕_ _⊗_ : E → E → E} {⊖ : E → E} (D : Domain E 𝟘 𝟙 _⊕_ _⊗_ ⊖) where
   infixl 60 _⊕_
   infixl 70 _⊗_
-
   -- x after the first n blocks, where block j is b j and the subkey that serves it is κ j
   unfoldable pub run : (ℕ → E) → (ℕ → E) → ℕ → E
   run b κ zero = 𝟘
@@ -25,7 +24,7 @@ module _ {E : Type 0} {𝟘 𝟙 : E} {_⊕_ _⊗_ : E → E → E} {⊖ : E →
       let before = run-same b b′ κ κ′ n (λ j h. eb j (omega arith)) (λ j h. eκ j (omega arith)) in
       ap₂ _⊗_ (ap₂ _⊕_ before (eb n (omega arith))) (eκ n (omega arith))
 
-  -- A chunk of i blocks from block s on that is entered with X makes a polynomial in its subkey: its constant coefficient
+  -- A chunk of i blocks from block s on, entered with X, is a polynomial in its subkey: its constant coefficient
   unfoldable pub low : E → ℕ → E
   low X zero = X
   low X (suc i) = 𝟘

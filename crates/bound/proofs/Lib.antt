@@ -1,9 +1,12 @@
+-- polynomials over a domain
 mod Domain
 mod Roots
 mod Differences
+-- the hash's rule as a polynomial in one subkey
 mod Horner
 mod Behind
 mod OneSubkey
+-- lists, sums and all rings
 mod Each
 mod Apart
 mod Members
@@ -12,6 +15,10 @@ mod Rings
 mod Put
 mod Places
 mod Zeros
+mod Keys
+mod Counts
+mod RingsInAll
+-- elements and texts
 mod Elements
 mod Agreement
 mod Texts
@@ -19,11 +26,11 @@ mod Chunks
 mod Hashes
 mod HashPolynomial
 mod LastChunk
+-- the three cases, and the theorem
+mod Meets
+mod SameLength
 mod SameChunks
 mod MoreChunks
-mod SameLength
 mod Longer
-mod Keys
-mod Counts
 mod EitherOrder
 pub mod Theorem

@@ -17,8 +17,9 @@ use Rattle.bound.proofs.Sums.{sum}
 use Rattle.bound.proofs.Rings.{rings}
 use Rattle.bound.proofs.Chunks.{fullest}
 use Rattle.bound.proofs.SameLength.{same-length-bound}
-use Rattle.bound.proofs.SameChunks.{meets, same-chunks}
-use Rattle.bound.proofs.MoreChunks.{equals, more-chunks, equals-never, equals-seldom}
+use Rattle.bound.proofs.SameChunks.{same-chunks}
+use Rattle.bound.proofs.MoreChunks.{more-chunks, equals-never, equals-seldom}
+use Rattle.bound.proofs.Meets.{meets, equals}
 
 -- the blocks of the fullest chunk of two texts
 abbrev pub widest : List ℕ → List ℕ → ℕ
@@ -50,7 +51,7 @@ module _ {m : Model} (F : FieldLaws m) (Z : Only-zero-makes-zero m)
   of-as-many-chunks ne e = (omega (arith, bound, up), λ z. omega (arith, bound, alone (widest a b) z))
     where
       bound : sum (meets m a b) (rings keys (suc c)) ≤ widest a b * length keys ^ c
-      bound = same-chunks F Z keys distinct elements a b ta tb c ca e ne (widest a b) (omega arith) (omega arith)
+      bound = same-chunks F Z keys distinct elements a b ta tb ne c ca e (widest a b) (omega arith) (omega arith)
 
       up : widest a b * length keys ^ c ≤ 1024 * length keys ^ c
       up = mul-le-mul-right (length keys ^ c) (omega arith)

@@ -1,12 +1,13 @@
 -- The hash as a polynomial in the subkey of one chunk, and what its coefficients tell. Assumes nothing.
 use mathlib.Core.Path.{_≡_, refl, sym, ap, subst, _∙_}
-use mathlib.Core.Logic.{_⊎_, inl, inr, _≢_}
+use mathlib.Core.Logic.{inl, inr, _≢_}
 use mathlib.Core.List.{List, [], _∷_}
 use Prim.Native.Nat.{ℕ, zero, suc, _+_, _<_}
 use native.Mathlib.Decide.{ℕ-discrete}
 use native.Mathlib.Omega.{arith}
 use lib.ListN.{length}
-use Rattle.bound.proofs.Domain.{Domain, plus-left-comm, times-left-comm, zero-plus, plus-cancel, minus-zero, times-zero, times-cancel}
+use Rattle.bound.proofs.Domain.{Domain, plus-left-comm, times-left-comm, zero-plus, times-zero}
+use Rattle.bound.proofs.Domain.{plus-cancel, minus-zero, times-cancel}
 use Rattle.bound.proofs.Roots.{eval, Zeros}
 use Rattle.bound.proofs.Differences.{minus}
 use Rattle.bound.proofs.Horner.{run, run-same, low, high, high-length, run-chunk}
@@ -15,7 +16,6 @@ use Rattle.bound.proofs.Behind.{factor, addend, run-behind, factor-nonzero}
 module _ {E : Type 0} {𝟘 𝟙 : E} {_⊕_ _⊗_ : E → E → E} {⊖ : E → E} (D : Domain E 𝟘 𝟙 _⊕_ _⊗_ ⊖) where
   infixl 60 _⊕_
   infixl 70 _⊗_
-
   scale : E → List E → List E
   scale w [] = []
   scale w (c ∷ cs) = w ⊗ c ∷ scale w cs
@@ -39,7 +39,7 @@ module _ {E : Type 0} {𝟘 𝟙 : E} {_⊕_ _⊗_ : E → E → E} {⊖ : E →
     pub within : (j : ℕ) → j < i → κ (s + j) ≡ k
     pub behind : (j : ℕ) → j < l → κ (s + i + j) ≡ κ′ (s + i + j)
 
-  -- s blocks that make X, a chunk of i blocks and l blocks behind it, then v added: the coefficients in the chunk's subkey
+  -- s blocks that make X, a chunk of i blocks, l blocks behind it, and v added: the coefficients in the chunk's subkey
   pub constant : (b κ : ℕ → E) (X v : E) (s i l : ℕ) → E
   constant b κ X v s i l = addend D b κ (s + i) l ⊕ factor D κ (s + i) l ⊗ low D X i ⊕ v
 
@@ -79,7 +79,8 @@ module _ {E : Type 0} {𝟘 𝟙 : E} {_⊕_ _⊗_ : E → E → E} {⊖ : E →
       ap (λ w. 𝟘 ⊕ w ⊕ v) (times-zero D 𝟙) ∙ ap (λ w. w ⊕ v) (D .plus-zero 𝟘) ∙ zero-plus D v
 
   same-high : (b b′ : ℕ → E) (F X : E) (s i : ℕ) → F ≢ 𝟘 →
-      Zeros D (minus D (scale F (high D b X s i)) (scale F (high D b′ X s i))) → (j : ℕ) → j < i → b (s + j) ≡ b′ (s + j)
+      Zeros D (minus D (scale F (high D b X s i)) (scale F (high D b′ X s i))) →
+      (j : ℕ) → j < i → b (s + j) ≡ b′ (s + j)
   unfolding minus scale high
   same-high b b′ F X s zero F≢0 z j h = absurd (omega arith)
   same-high b b′ F X s (suc i) F≢0 z j h =

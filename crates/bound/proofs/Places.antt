@@ -29,7 +29,8 @@ module _ (keys : List ℕ) where
     where
       below : sum (λ r. sum (λ k. f (put c k r)) keys) (rings keys n) ≤ sum (λ r. d + w r * length keys) (rings keys n)
       below =
-          sum-le (λ r. (length r ≡ n) × All P r) _ _ (λ r p. each r (p .0) (p .1)) (rings keys n) (rings-all keys P all n)
+          sum-le (λ r. (length r ≡ n) × All P r) _ _ (λ r p. each r (p .0) (p .1))
+          (rings keys n) (rings-all keys P all n)
 
       total : sum (λ r. d + w r * length keys) (rings keys n) ≡ d * length keys ^ n + sum w (rings keys n) * length keys
       total =

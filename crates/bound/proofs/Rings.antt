@@ -1,8 +1,8 @@
 -- All rings of c subkeys that are taken from a list of keys, and sums over them. Assumes nothing.
 use mathlib.Core.Path.{_≡_, refl, sym, ap, _∙_}
-use mathlib.Core.Logic.{_⊎_, inl, inr}
+use mathlib.Core.Logic.{inl, inr}
 use mathlib.Core.List.{List, [], _∷_, map}
-use Prim.Native.Nat.{ℕ, zero, suc, _+_, _*_, _^_}
+use Prim.Native.Nat.{ℕ, zero, suc, _*_, _^_}
 use native.Mathlib.Nat.{add-zero, mul-one, one-mul, mul-assoc, pow-suc, pow-zero}
 use native.Mathlib.Omega.{arith}
 use lib.ListN.{length}

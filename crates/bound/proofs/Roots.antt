@@ -1,8 +1,8 @@
 -- A polynomial over a domain that is not zero has no more roots than its degree. Assumes nothing.
 use mathlib.Core.Path.{_≡_, refl, sym, ap, _∙_}
-use mathlib.Core.Logic.{_⊎_, inl, inr, _≢_}
+use mathlib.Core.Logic.{inl, inr, _≢_}
 use mathlib.Core.List.{List, [], _∷_}
-use Prim.Native.Nat.{ℕ, suc, _≤_}
+use Prim.Native.Nat.{suc, _≤_}
 use native.Mathlib.Omega.{arith}
 use lib.ListN.{length}
 use Rattle.std.specs.shelf.Lists.{All}
@@ -12,7 +12,6 @@ use Rattle.bound.proofs.Domain.{Domain, plus-left-comm, times-left-comm, plus-
 module _ {E : Type 0} {𝟘 𝟙 : E} {_⊕_ _⊗_ : E → E → E} {⊖ : E → E} (D : Domain E 𝟘 𝟙 _⊕_ _⊗_ ⊖) where
   infixl 60 _⊕_
   infixl 70 _⊗_
-
   -- a polynomial's value, by its coefficients, of which the constant one comes first
   unfoldable pub eval : List E → E → E
   eval [] x = 𝟘
@@ -55,7 +54,10 @@ module _ {E : Type 0} {𝟘 𝟙 : E} {_⊕_ _⊗_ : E → E → E} {⊖ : E →
       eval (quotient r cs) x ≡ 𝟘
   unfolding eval
   another-root r x c cs at-r at-x r≢x =
-      elim (times-cancel D Q r x (D .times-comm Q r ∙ products ∙ D .times-comm x Q)) [ inl z ↦ z | inr e ↦ absurd (r≢x e) ]
+      elim (times-cancel D Q r x (D .times-comm Q r ∙ products ∙ D .times-comm x Q)) [
+        | inl zero-there ↦ zero-there
+        | inr e ↦ absurd (r≢x e)
+      ]
     where
       Q : E
       Q = eval (quotient r cs) x
@@ -90,7 +92,8 @@ module _ {E : Type 0} {𝟘 𝟙 : E} {_⊕_ _⊗_ : E → E → E} {⊖ : E →
       (sym (only-constant r c cs (eval-zeros r cs zs)) ∙ z .0, zs)
 
   -- as many different roots as coefficients: then the coefficients are zero
-  pub zeros-from-roots : (xs cs : List E) → Distinct xs → All (λ x. eval cs x ≡ 𝟘) xs → length cs ≤ length xs → Zeros cs
+  pub zeros-from-roots : (xs cs : List E) → Distinct xs → All (λ x. eval cs x ≡ 𝟘) xs → length cs ≤ length xs →
+      Zeros cs
   zeros-from-roots xs [] distinct roots many = tt
   zeros-from-roots [] (c ∷ cs) distinct roots many = absurd (omega arith)
   zeros-from-roots (r ∷ xs) (c ∷ cs) distinct roots many =

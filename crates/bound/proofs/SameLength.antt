@@ -1,4 +1,5 @@
--- Two different texts of one length: the subkey of the first chunk that differs makes them differ, if no other is zero. Assumes nothing.
+-- Two different texts of one length: the subkey of the first chunk that differs tells them apart, but for the rings
+-- with a zero subkey elsewhere. Assumes nothing.
 use mathlib.Core.Path.{_≡_, refl, sym, ap, subst, _∙_}
 use mathlib.Core.Logic.{_≢_}
 use mathlib.Core.List.{List}
@@ -29,7 +30,7 @@ use Rattle.bound.proofs.Texts.{First-difference, first-other-block}
 use Rattle.bound.proofs.Chunks.{Cut, fullest, cut-fullest, cut-at, cut-same-length, chunk-behind}
 use Rattle.bound.proofs.Hashes.{blocks, block-element, subkey-element}
 use Rattle.bound.proofs.HashPolynomial.{rest, entry, others-of, coefficients, hash-polynomial}
-use Rattle.bound.proofs.SameChunks.{meets}
+use Rattle.bound.proofs.Meets.{meets}
 
 module _ {m : Model} (F : FieldLaws m) (Z : Only-zero-makes-zero m) where
   -- the subkeys behind chunk c are not zero, if none of the ring is
@@ -98,8 +99,11 @@ module _ {m : Model} (F : FieldLaws m) (Z : Only-zero-makes-zero m)
       (n : ℕ) → chunk-count a ≡ suc n → (d : ℕ) → fullest a ≤ d →
       sum (meets m a b) (rings keys (suc n)) ≤ (d + n) * length keys ^ n
   from-first j j<count (differ, before) i l cut inside n cn d most =
-      omega (arith, zeros-bound keys distinct n,
-      place-bound keys (Element m) elements c n d (omega arith) (meets m a b) zeros each)
+      omega (
+        arith,
+        zeros-bound keys distinct n,
+        place-bound keys (Element m) elements c n d (omega arith) (meets m a b) zeros each,
+      )
     where
       c : ℕ
       c = chunk-of j

@@ -1,4 +1,4 @@
--- Texts by their blocks: a block's number is below 2 ^ 56, and texts of one length with the same blocks are the same. Assumes nothing.
+-- Texts by the numbers of their blocks: these are below 2 ^ 56, and tell texts of one length apart. Assumes nothing.
 use mathlib.Core.Path.{_≡_, refl, sym, ap, ap₂, _∙_}
 use mathlib.Core.Logic.{_⊎_, inl, inr, _≢_}
 use mathlib.Core.List.{List, [], _∷_}
@@ -30,7 +30,8 @@ number-same [] [] l bx by e = refl
 number-same [] (y ∷ ys) l bx by e = absurd (omega arith)
 number-same (x ∷ xs) [] l bx by e = absurd (omega arith)
 number-same (x ∷ xs) (y ∷ ys) l bx by e =
-    ap₂ _∷_ (omega (arith, bx .0, by .0)) (number-same xs ys (omega arith) (bx .1) (by .1) (omega (arith, bx .0, by .0)))
+    let first : x ≡ y = omega (arith, bx .0, by .0) in
+    ap₂ _∷_ first (number-same xs ys (omega arith) (bx .1) (by .1) (omega arith))
 
 -- the bytes of block q
 piece : List ℕ → ℕ → List ℕ

@@ -1,12 +1,11 @@
 -- The collision bound, over any field. Assumes nothing.
-use mathlib.Core.Path.{_≡_, refl, sym, ap, subst, _∙_}
+use mathlib.Core.Path.{_≡_, refl, ap, subst, _∙_}
 use mathlib.Core.Logic.{_≢_}
 use mathlib.Core.Bool.{Bool, true, false, cond}
 use mathlib.Core.List.{List}
-use Prim.Native.Nat.{ℕ, zero, suc, _+_, _-_, _*_, _^_, _<_, _≤_, max}
+use Prim.Native.Nat.{ℕ, _+_, _-_, _*_, _^_, _<_, _≤_}
 use native.Mathlib.Nat.{pow-zero, mul-le-mul-right}
 use native.Mathlib.Omega.{arith}
-use lib.ListN.{length}
 use lib.Dec.{eqb}
 use Rattle.std.specs.Iters.{counting}
 use Rattle.std.specs.shelf.Lists.{All}
@@ -15,38 +14,14 @@ use Rattle.std.proofs.shelf.Elements.{all-weaker}
 use Rattle.std.proofs.shelf.Tests.{eqb-true}
 use Rattle.field.specs.Model.{Model}
 use Rattle.field.specs.Laws.{Element, FieldLaws}
-use Rattle.hash.specs.Texts.{chunk-count}
-use Rattle.hash.specs.Hash.{hash-of}
-use Rattle.bound.specs.Counting.{Distinct, At-most, Exactly}
-use Rattle.bound.specs.Bound.{Only-zero-makes-zero, Text, Ring, chunks, Shares, Collision-bound, share, Share-at-most}
+use Rattle.bound.specs.Counting.{At-most}
+use Rattle.bound.specs.Bound.{Only-zero-makes-zero, Text, chunks, Shares, Collision-bound, share, Share-at-most}
 use Rattle.bound.proofs.Each.{all-both}
-use Rattle.bound.proofs.Members.{Member, no-longer}
-use Rattle.bound.proofs.Rings.{rings, rings-all, rings-distinct, rings-length, rings-member}
+use Rattle.bound.proofs.Members.{Member}
 use Rattle.bound.proofs.Keys.{counting-within, counting-distinct, counting-member}
 use Rattle.bound.proofs.Counts.{at-most-fewer, at-most-up}
-use Rattle.bound.proofs.Longer.{widest}
+use Rattle.bound.proofs.RingsInAll.{rings-in-all}
 use Rattle.bound.proofs.EitherOrder.{Few-meetings, either-order}
-
-rings-in-all : (m : Model) (c : ℕ) → Exactly (m .size ^ c) (Ring m c)
-rings-in-all m c = (
-  (λ rs distinct all. subst (λ n. length rs ≤ n) size
-      (no-longer rs (rings all-keys c) distinct (all-weaker (Ring m c) (Member (rings all-keys c)) member rs all))),
-  (rings all-keys c, rings-distinct all-keys (counting-distinct 0 (m .size)) c, rings-all all-keys (Element m) below c, size),
-)
-  where
-    all-keys : List ℕ
-    all-keys = counting 0 (m .size)
-
-    below : All (Element m) all-keys
-    below = all-weaker _ (Element m) (λ k h. omega arith) all-keys (counting-within 0 (m .size))
-
-    size : length (rings all-keys c) ≡ m .size ^ c
-    size = rings-length all-keys c ∙ ap (λ n. n ^ c) (length-counting 0 (m .size))
-
-    member : (r : List ℕ) → Ring m c r → Member (rings all-keys c) r
-    member r (l, elements) =
-        rings-member all-keys c r l
-        (all-weaker (Element m) (Member all-keys) (λ k h. counting-member 0 (m .size) k (omega arith) (omega arith)) r elements)
 
 module _ {m : Model} (F : FieldLaws m) (Z : Only-zero-makes-zero m) where
   -- where the good subkeys are n numbers from lo on
@@ -75,11 +50,11 @@ module _ {m : Model} (F : FieldLaws m) (Z : Only-zero-makes-zero m) where
   collision-bound = record {
     rings = rings-in-all m;
     few = λ a b ta tb a≢b. at-most-up (Shares m a b) _ _
-      (mul-le-mul-right (m .size ^ (chunks a b - 1)) (omega arith)) (of-all a b ta tb a≢b .0);
+        (mul-le-mul-right (m .size ^ (chunks a b - 1)) (omega arith)) (of-all a b ta tb a≢b .0);
     few-in-one-chunk = λ a b ta tb a≢b e. at-most-up (Shares m a b) _ _ (omega arith) (of-all a b ta tb a≢b .1 e);
     fewer = λ a b ta tb a≢b. of-all a b ta tb a≢b .0;
     fewer-without-zero = λ a b ta tb a≢b. at-most-fewer _ _ _
-      (λ r h. ((h .0 .0 .0, all-both _ _ r (h .0 .0 .1) (h .1)), h .0 .1)) (of-nonzero a b ta tb a≢b .0);
+        (λ r h. ((h .0 .0 .0, all-both _ _ r (h .0 .0 .1) (h .1)), h .0 .1)) (of-nonzero a b ta tb a≢b .0);
   }
 
   pub share-at-most : (k : ℕ) (a b : List ℕ) → k ≡ share (chunks a b) → Share-at-most m k a b

@@ -1,5 +1,5 @@
 -- How many subkeys are zero, in one ring and over all rings. Assumes nothing.
-use mathlib.Core.Path.{_≡_, refl, sym, ap, ap₂, subst, _∙_}
+use mathlib.Core.Path.{_≡_, refl, sym, ap, ap₂, _∙_}
 use mathlib.Core.Logic.{_≢_}
 use mathlib.Core.Bool.{Bool, true, false}
 use mathlib.Core.List.{List, [], _∷_}
@@ -48,8 +48,8 @@ module _ (keys : List ℕ) (distinct : Distinct keys) where
   unfolding rings
   zeros-bound zero = omega arith
   zeros-bound (suc n) =
-      rw (step, pow-suc K n)
-      (omega (arith, mul-le-mul-right K (mul-le-mul-right p (zeros-once keys distinct)), mul-le-mul-right K (zeros-bound n)))
+      let once = mul-le-mul-right K (mul-le-mul-right p (zeros-once keys distinct)) in
+      rw (step, pow-suc K n) (omega (arith, once, mul-le-mul-right K (zeros-bound n)))
     where
       K : ℕ
       K = length keys

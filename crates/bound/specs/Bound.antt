@@ -45,7 +45,7 @@ pub record Collision-bound (m : Model) : Type 0 where
   pub fewer : Of-different-texts (λ a b. At-most (2048 * m .size ^ (chunks a b - 1)) (Shares m a b))
   -- and of the rings without a zero subkey
   pub fewer-without-zero : Of-different-texts (λ a b.
-    At-most (2048 * (m .size - 1) ^ (chunks a b - 1)) (λ ring. Shares m a b ring × All (λ k. k ≢ 0) ring))
+      At-most (2048 * (m .size - 1) ^ (chunks a b - 1)) (λ ring. Shares m a b ring × All (λ k. k ≢ 0) ring))
 
 -- in how many of N rings at most two different texts share a hash, where the longer has c chunks
 abbrev pub share : ℕ → ℕ

@@ -10,5 +10,9 @@ pub fn collisions<F: Field>(a: &[u8], b: &[u8]) -> u64
     ensures bound { λ _. ⌜ (Only-zero-makes-zero (F·Field .model) → Collision-bound (F·Field .model)) ⌝ }
 {
     let chunks = hash::chunks(a).max(hash::chunks(b));
-    if chunks == 1 { 1_024 } else { 2_048 + chunks as u64 }
+    if chunks == 1 {
+        1_024
+    } else {
+        2_048 + chunks as u64
+    }
 }

@@ -54,7 +54,8 @@ module _ {m : Model} (F : FieldLaws m) (Z : Only-zero-makes-zero m) (c : ℕ) (r
       elsewhere j ne = ap (el F) (put-other c (k .0) 0 r (chunk-of j) place ne)
 
   pub hash-polynomial : c ≤ length r → All (Element m) r → (text : List ℕ) → Text text → (i l : ℕ) → Cut text c i l →
-      (X : El m) → entry text ≡ X → Is-polynomial m (domain F Z) (λ k. hash-of m (put c k r) text) (coefficients text X i l)
+      (X : El m) → entry text ≡ X →
+      Is-polynomial m (domain F Z) (λ k. hash-of m (put c k r) text) (coefficients text X i l)
   hash-polynomial place elements text t i l cut X start k =
       hash-value F Z (put c (k .0) r) text (put-all (Element m) c (k .0) r (k .1) elements) t
       ∙ ap (λ (x : El m). x .0) (ap to-the-end (cut .whole) ∙ polynomial)

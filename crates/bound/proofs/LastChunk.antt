@@ -40,7 +40,8 @@ module _ {m : Model} (F : FieldLaws m) (Z : Only-zero-makes-zero m) where
           sym (el-own F v element) ∙ sym (ap (λ (y : El m). y .0) only)
 
   pub hash-has-constant : (c : ℕ) (r : List ℕ) → c ≤ length r → All (Element m) r → (text : List ℕ) → Text text →
-      chunk-count text ≡ suc c → (d : ℕ) → fullest text ≤ d → Has-constant (λ k. hash-of m (put c k r) text) (length text) d
+      chunk-count text ≡ suc c → (d : ℕ) → fullest text ≤ d →
+      Has-constant (λ k. hash-of m (put c k r) text) (length text) d
   hash-has-constant c r place elements text t e d most =
       (ps, subst Is-hash first (hash-polynomial F Z c r place elements text t (suc i) 0 cut X refl), few)
     where

@@ -33,4 +33,5 @@ mod SameChunks
 mod MoreChunks
 mod Longer
 mod EitherOrder
+mod SomeCollision
 pub mod Theorem

@@ -2,7 +2,7 @@
 use mathlib.Core.Path.{_≡_}
 use mathlib.Core.Logic.{_⊎_, _≢_}
 use mathlib.Core.Bool.{cond}
-use mathlib.Core.List.{List}
+use mathlib.Core.List.{List, [], _∷_}
 use Prim.Native.Nat.{ℕ, _+_, _-_, _*_, _^_, _<_, _≤_, max}
 use lib.ListN.{length}
 use lib.Dec.{eqb}
@@ -37,6 +37,7 @@ abbrev pub Of-different-texts : (List ℕ → List ℕ → Type 0) → Type 0
 Of-different-texts P = (a b : List ℕ) → Text a → Text b → a ≢ b → P a b
 
 -- With N elements in the field, there are N ^ C rings of C subkeys, and two different texts share a hash under few.
+-- No division is needed to read it: at most k * N ^ (C - 1) of N ^ C rings are at most k in N.
 pub record Collision-bound (m : Model) : Type 0 where
   pub rings : (c : ℕ) → Exactly (m .size ^ c) (Ring m c)
   pub few : Of-different-texts (λ a b. At-most ((2048 + chunks a b) * m .size ^ (chunks a b - 1)) (Shares m a b))
@@ -46,11 +47,14 @@ pub record Collision-bound (m : Model) : Type 0 where
   -- and of the rings without a zero subkey
   pub fewer-without-zero : Of-different-texts (λ a b.
       At-most (2048 * (m .size - 1) ^ (chunks a b - 1)) (λ ring. Shares m a b ring × All (λ k. k ≢ 0) ring))
+  -- some texts do share a hash under some ring: the empty text and the byte 1, under the negative of one
+  pub not-none : Shares m [] (1 ∷ []) (m .neg 1 ∷ [])
 
 -- in how many of N rings at most two different texts share a hash, where the longer has c chunks
 abbrev pub share : ℕ → ℕ
 share c = cond (eqb c 1) 1024 (2048 + c)
 
--- if the two texts differ, at most k in N rings give them the same hash
+-- under the premise, if the two texts differ, at most k in N rings give them the same hash
 abbrev pub Share-at-most : Model → ℕ → List ℕ → List ℕ → Type 0
-Share-at-most m k a b = Text a → Text b → a ≢ b → At-most (k * m .size ^ (chunks a b - 1)) (Shares m a b)
+Share-at-most m k a b =
+    Only-zero-makes-zero m → Text a → Text b → a ≢ b → At-most (k * m .size ^ (chunks a b - 1)) (Shares m a b)

@@ -5,13 +5,13 @@ use Rattle.bound.proofs.collisions.Needs as need
 pub returns-then-chunks-eq1 : need.returns-then-chunks-eq1
 returns-then-chunks-eq1 g c = record {
   value = search needs;
-  meaning = λ Z. share-at-most (g .F·Field·met .holds) Z _ _ _ (search needs);
+  meaning = share-at-most (g .F·Field·met .holds) _ _ _ (search needs);
   bound = collision-bound (g .F·Field·met .holds);
 }
 
 pub returns-else-chunks-eq1 : need.returns-else-chunks-eq1
 returns-else-chunks-eq1 g c = record {
   value = search needs;
-  meaning = λ Z. share-at-most (g .F·Field·met .holds) Z _ _ _ (search needs);
+  meaning = share-at-most (g .F·Field·met .holds) _ _ _ (search needs);
   bound = collision-bound (g .F·Field·met .holds);
 }

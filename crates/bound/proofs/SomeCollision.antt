@@ -1,7 +1,6 @@
 -- The empty text and the byte 1 share a hash under the negative of one, over any field. Assumes nothing.
 use mathlib.Core.Path.{_≡_, refl, sym, ap, _∙_}
-use mathlib.Core.List.{List, [], _∷_}
-use Prim.Native.Nat.{ℕ}
+use mathlib.Core.List.{[], _∷_}
 use Rattle.field.specs.Model.{Model}
 use Rattle.field.specs.Laws.{Element, FieldLaws}
 use Rattle.bound.specs.Bound.{Shares}

@@ -38,23 +38,23 @@ module _ {m : Model} (F : FieldLaws m) (Z : Only-zero-makes-zero m)
   alone : (n : ℕ) → c ≡ 0 → n * length keys ^ c ≡ n
   alone n z = ap (λ p. n * p) (ap (λ e. length keys ^ e) z ∙ pow-zero (length keys)) ∙ mul-one n
 
+  up : widest a b * length keys ^ c ≤ 1024 * length keys ^ c
+  up = mul-le-mul-right (length keys ^ c) (omega arith)
+
   of-one-length : length a ≡ length b → Few
-  of-one-length e = (omega (arith, bound, up), λ z. omega (arith, bound, alone (widest a b + c) z))
+  of-one-length e = (omega (arith, bound, enough), λ z. omega (arith, bound, alone (widest a b + c) z))
     where
       bound : sum (meets m a b) (rings keys (suc c)) ≤ (widest a b + c) * length keys ^ c
       bound = same-length-bound F Z keys distinct elements a b ta tb e a≢b c ca (widest a b) (omega arith)
 
-      up : (widest a b + c) * length keys ^ c ≤ 2048 * length keys ^ c
-      up = mul-le-mul-right (length keys ^ c) (omega (arith, ta .0))
+      enough : (widest a b + c) * length keys ^ c ≤ 2048 * length keys ^ c
+      enough = mul-le-mul-right (length keys ^ c) (omega (arith, ta .0))
 
   of-as-many-chunks : length a ≢ length b → chunk-count b ≡ suc c → Few
   of-as-many-chunks ne e = (omega (arith, bound, up), λ z. omega (arith, bound, alone (widest a b) z))
     where
       bound : sum (meets m a b) (rings keys (suc c)) ≤ widest a b * length keys ^ c
       bound = same-chunks F Z keys distinct elements a b ta tb ne c ca e (widest a b) (omega arith) (omega arith)
-
-      up : widest a b * length keys ^ c ≤ 1024 * length keys ^ c
-      up = mul-le-mul-right (length keys ^ c) (omega arith)
 
   of-more-chunks : chunk-count b ≤ c → Few
   of-more-chunks fewer = (omega (arith, bound, seldom, up), λ z. omega (arith, bound, alone (widest a b) z, never z))
@@ -73,9 +73,6 @@ module _ {m : Model} (F : FieldLaws m) (Z : Only-zero-makes-zero m)
           ap (λ n. n * length keys)
           (equals-never F Z keys distinct elements b (length a) c (omega arith) (omega arith))
           ∙ zero-mul (length keys)
-
-      up : widest a b * length keys ^ c ≤ 1024 * length keys ^ c
-      up = mul-le-mul-right (length keys ^ c) (omega arith)
 
   pub longer : Few
   longer =

@@ -11,6 +11,7 @@ use Rattle.bound.proofs.Rings.{rings, rings-all, sum-step, sum-rings-const}
 use Rattle.bound.proofs.Put.{put}
 
 module _ (keys : List ℕ) where
+  -- a sum over all rings, with the subkey at place c taken last
   sum-put : (f : List ℕ → ℕ) (c n : ℕ) → c ≤ n →
       sum f (rings keys (suc n)) ≡ sum (λ r. sum (λ k. f (put c k r)) keys) (rings keys n)
   unfolding put
@@ -21,6 +22,8 @@ module _ (keys : List ℕ) where
       ∙ sum-same _ _ keys (λ x. sum-put (λ r. f (x ∷ r)) c n (omega arith))
       ∙ sym (sum-step keys (λ r. sum (λ k. f (put (suc c) k r)) keys) n)
 
+  -- With the other subkeys r fixed, f sums over the subkey at place c to d at most, and for each that w counts to as much
+  -- more as there are keys.
   pub place-bound : (P : ℕ → Type 0) → All P keys → (c n d : ℕ) → c ≤ n → (f w : List ℕ → ℕ) →
       ((r : List ℕ) → length r ≡ n → All P r → sum (λ k. f (put c k r)) keys ≤ d + w r * length keys) →
       sum f (rings keys (suc n)) ≤ d * length keys ^ n + sum w (rings keys n) * length keys
@@ -37,6 +40,7 @@ module _ (keys : List ℕ) where
           sum-add (λ r. d) (λ r. w r * length keys) (rings keys n)
           ∙ ap₂ _+_ (sum-rings-const keys d n) (sum-scale w (length keys) (rings keys n))
 
+  -- the same where w counts none
   pub place-bound-even : (P : ℕ → Type 0) → All P keys → (c n d : ℕ) → c ≤ n → (f : List ℕ → ℕ) →
       ((r : List ℕ) → length r ≡ n → All P r → sum (λ k. f (put c k r)) keys ≤ d) →
       sum f (rings keys (suc n)) ≤ d * length keys ^ n

@@ -1,4 +1,4 @@
--- A polynomial over a domain that is not zero has no more roots than its degree. Assumes nothing.
+-- A nonzero polynomial over a domain has no more roots than its degree. Assumes nothing.
 use mathlib.Core.Path.{_≡_, refl, sym, ap, _∙_}
 use mathlib.Core.Logic.{inl, inr, _≢_}
 use mathlib.Core.List.{List, [], _∷_}

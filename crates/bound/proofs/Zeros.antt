@@ -44,6 +44,7 @@ zeros-once (k ∷ keys) distinct = go (eqb k 0) refl (zeros-once keys (distinct 
     go false e once = omega arith
 
 module _ (keys : List ℕ) (distinct : Distinct keys) where
+  -- one in as many subkeys as there are keys is zero at most
   pub zeros-bound : (n : ℕ) → sum zeros (rings keys n) * length keys ≤ n * length keys ^ n
   unfolding rings
   zeros-bound zero = omega arith

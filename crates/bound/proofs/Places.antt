@@ -22,8 +22,8 @@ module _ (keys : List ℕ) where
       ∙ sum-same _ _ keys (λ x. sum-put (λ r. f (x ∷ r)) c n (omega arith))
       ∙ sym (sum-step keys (λ r. sum (λ k. f (put (suc c) k r)) keys) n)
 
-  -- With the other subkeys r fixed, f sums over the subkey at place c to d at most, and for each that w counts to as much
-  -- more as there are keys.
+  -- With the other subkeys r fixed, f sums over the subkey at place c to d at most, and for each that w counts to as
+  -- much more as there are keys.
   pub place-bound : (P : ℕ → Type 0) → All P keys → (c n d : ℕ) → c ≤ n → (f w : List ℕ → ℕ) →
       ((r : List ℕ) → length r ≡ n → All P r → sum (λ k. f (put c k r)) keys ≤ d + w r * length keys) →
       sum f (rings keys (suc n)) ≤ d * length keys ^ n + sum w (rings keys n) * length keys

@@ -1,13 +1,14 @@
 -- Rings: whether some subkey is too large, and what follows where none is. Assumes nothing.
-use mathlib.Core.Path.{_≡_, refl, sym, ap, _∙_}
+use mathlib.Core.Path.{_≡_, refl, sym, ap, ap₂, _∙_}
 use mathlib.Core.Bool.{Bool, true, false, _||_}
-use mathlib.Core.List.{List, [], _∷_}
-use Prim.Native.Nat.{ℕ, zero, suc, _+_, _<_, _≤_}
-use native.Mathlib.Omega.{arith}
+use mathlib.Core.List.{List, [], _∷_, map}
+use Prim.Native.Nat.{ℕ, _+_, _<_, _≤_}
 use lib.ListN.{length, drop, getD}
 use lib.Dec.{leb}
 use Rattle.std.proofs.shelf.Lists.{drop-more, drop-all}
 use Rattle.std.proofs.shelf.Tests.{le-leb, lt-leb, leb-false, true≢false}
+use Rattle.field.specs.Model.{Model}
+use Rattle.field.specs.Laws.{FieldLaws}
 use Rattle.hash.specs.Hash.{some-from}
 
 pub from-here : (n : ℕ) (ring : List ℕ) (i : ℕ) → i < length ring → n ≤ getD ring i 0
@@ -29,8 +30,9 @@ or-false : {a b : Bool} → (a || b) ≡ false → (a ≡ false) × (b ≡ false
 or-false {a = true} e = absurd (true≢false e)
 or-false {a = false} e = (refl, e)
 
--- where no subkey is too large, each is an element
-pub each-below : (n : ℕ) (ring : List ℕ) → some-from n ring ≡ false → (i : ℕ) → i < length ring → getD ring i 0 < n
-each-below n (k ∷ ks) none zero within = leb-false n k (or-false none .0)
-each-below n (k ∷ ks) none (suc i) within = each-below n ks (or-false none .1) i (omega arith)
-each-below n [] none i within = absurd (omega arith)
+-- where no subkey is too large, each is its own element
+pub all-own : {m : Model} → FieldLaws m → (ring : List ℕ) → false ≡ some-from (m .size) ring → map (m .means) ring ≡ ring
+all-own laws [] none = refl
+all-own {m} laws (k ∷ ks) none =
+    let parts = or-false (sym none) in
+    ap₂ _∷_ (laws .means-own k (leb-false (m .size) k (parts .0))) (all-own laws ks (sym (parts .1)))

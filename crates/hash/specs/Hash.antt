@@ -1,6 +1,6 @@
 -- The hash of a text under a ring of subkeys, over any field. Assumes nothing.
 use mathlib.Core.Bool.{Bool, false, _||_}
-use mathlib.Core.List.{List, [], _∷_}
+use mathlib.Core.List.{List, [], _∷_, _++_, map}
 use Prim.Native.Nat.{ℕ, zero, suc}
 use lib.ListN.{length, getD}
 use lib.Dec.{leb, ltb}
@@ -26,12 +26,20 @@ abbrev pub some-from : ℕ → List ℕ → Bool
 some-from n [] = false
 some-from n (k ∷ ks) = leb n k || some-from n ks
 
-abbrev pub hash-causes : Model → List ℕ → List ℕ → List Cause
-hash-causes m ring text =
+-- why a text is not hashed, where a ring of so many places is provided
+abbrev pub text-causes : List ℕ → ℕ → List Cause
+text-causes text places =
     9 when ltb longest-text (length text)
-    ∷ 10 when ltb (length ring) (chunk-count text)
-    ∷ 13 when some-from (m .size) ring
+    ∷ 10 when ltb places (chunk-count text)
     ∷ []
+
+abbrev pub hash-causes : Model → List ℕ → List ℕ → List Cause
+hash-causes m ring text = text-causes text (length ring) ++ 13 when some-from (m .size) ring ∷ []
 
 abbrev pub hash-outcome : Model → List ℕ → List ℕ → Outcome ℕ
 hash-outcome m ring text = decided (hash-causes m ring text) (gives (hash-of m ring text))
+
+-- the same under a ring of working numbers, of which none is too large: each stands for the element that it means
+abbrev pub working-outcome : Model → List ℕ → List ℕ → Outcome ℕ
+working-outcome m ring text =
+    decided (text-causes text (length ring)) (gives (hash-of m (map (m .means) ring) text))

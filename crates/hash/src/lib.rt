@@ -1,11 +1,11 @@
 // The polynomial hash of a text under a ring of subkeys, over any field.
 ghost use mathlib.Core.Path.{_≡_};
-ghost use mathlib.Core.Bool.{false};
+ghost use mathlib.Core.List.{map};
 ghost use Prim.Native.Nat.{_^_, _<_, _≤_};
 ghost use lib.ListN.{length};
-ghost use Rattle.refusal.specs.Outcomes.{told};
-ghost use Rattle.hash.specs.Texts.{block-bytes, longest-text, number, block-count, chunk-count};
-ghost use Rattle.hash.specs.Hash.{after, some-from, hash-outcome};
+ghost use Rattle.refusal.specs.Outcomes.{gives, told, decided};
+ghost use Rattle.hash.specs.Texts.{block-bytes, number, block-count, chunk-count};
+ghost use Rattle.hash.specs.Hash.{after, some-from, text-causes, hash-outcome, working-outcome};
 use field::Field;
 use refusal::Refusal;
 
@@ -49,8 +49,8 @@ fn too_large<F: Field>(ring: &[u64]) -> bool
 
 // A working number of what the text's blocks make, each with the subkey of its chunk.
 fn polynomial<F: Field>(ring: &[u64], text: &[u8]) -> u64
-    requires { ⌜ chunk-count (now text) ≤ length (now ring) ⌝ ∗ ⌜ some-from (F·Field .model .size) (now ring) ≡ false ⌝ }
-    ensures element { λ r. ⌜ F·Field .model .means r ≡ after (F·Field .model) (now (ring .entry)) (now (text .entry)) (block-count (now (text .entry))) ⌝ }
+    requires { ⌜ chunk-count (now text) ≤ length (now ring) ⌝ }
+    ensures element { λ r. ⌜ F·Field .model .means r ≡ after (F·Field .model) (map (F·Field .model .means) (now (ring .entry))) (now (text .entry)) (block-count (now (text .entry))) ⌝ }
 {
     let mut x = 0;
     for (i, block) in text.chunks(BLOCK_BYTES).enumerate() {
@@ -59,18 +59,35 @@ fn polynomial<F: Field>(ring: &[u64], text: &[u8]) -> u64
     x
 }
 
-pub fn hash<F: Field>(ring: &[u64], text: &[u8]) -> Result<u64, Refusal>
-    ensures { λ r. ⌜ told r ≡ hash-outcome (F·Field .model) (now (ring .entry)) (now (text .entry)) ⌝ }
+// Refuses a text that is too long, or that has more chunks than a ring has places.
+pub fn admit(text: &[u8], places: usize) -> Result<(), Refusal>
+    ensures { λ r. ⌜ told r ≡ decided (text-causes (now (text .entry)) places) (gives tt) ⌝ }
 {
     if text.len() > LONGEST_TEXT {
         return Err(Refusal::TextTooLong);
     }
-    if ring.len() < chunks(text) {
+    if places < chunks(text) {
         return Err(Refusal::RingTooShort);
     }
+    Ok(())
+}
+
+// The hash under the elements that the ring's working numbers mean. No branch depends on ring or text but for lengths.
+pub fn hash_by_working<F: Field>(ring: &[u64], text: &[u8]) -> Result<u64, Refusal>
+    ensures { λ r. ⌜ told r ≡ working-outcome (F·Field .model) (now (ring .entry)) (now (text .entry)) ⌝ }
+{
+    admit(text, ring.len())?;
+    let x = polynomial::<F>(ring, text);
+    Ok(F::reduce(F::sum(x, text.len() as u64)))
+}
+
+// The hash under a ring of the caller's own, each subkey of which must be an element's own number.
+pub fn hash<F: Field>(ring: &[u64], text: &[u8]) -> Result<u64, Refusal>
+    ensures { λ r. ⌜ told r ≡ hash-outcome (F·Field .model) (now (ring .entry)) (now (text .entry)) ⌝ }
+{
+    admit(text, ring.len())?;
     if too_large::<F>(ring) {
         return Err(Refusal::SubkeyTooLarge);
     }
-    let x = polynomial::<F>(ring, text);
-    Ok(F::reduce(F::sum(x, text.len() as u64)))
+    hash_by_working::<F>(ring, text)
 }

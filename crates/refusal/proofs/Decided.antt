@@ -1,8 +1,10 @@
--- Where no cause of refusal is there, the causes decide nothing. Assumes nothing.
+-- Causes of refusal: where none is there they decide nothing, and only then is a value given. Assumes nothing.
 use mathlib.Core.Path.{_≡_, refl, ap, sym, _∙_}
-use mathlib.Core.Bool.{Bool, false, cond}
+use mathlib.Core.Bool.{Bool, true, false, cond}
 use mathlib.Core.List.{List, [], _∷_}
-use Rattle.refusal.specs.Outcomes.{Outcome, refuses, Cause, decided}
+use Prim.Native.Nat.{ℕ}
+use native.Mathlib.Omega.{arith}
+use Rattle.refusal.specs.Outcomes.{Outcome, gives, refuses, Cause, decided}
 
 abbrev pub Absent : List Cause → Type 0
 Absent [] = Unit {0}
@@ -13,3 +15,15 @@ undecided [] o none = refl
 undecided {A} (c ∷ cs) o none =
     undecided cs o (none .1)
     ∙ ap (λ (t : Bool). cond {A = Outcome A} t (refuses (c .number)) (decided cs o)) (sym (none .0))
+
+-- and where the outcome that was heard is a value, no cause was there
+passed : {A : Type 0} (n : ℕ) {x : A} (t : Bool) (o : Outcome A) → gives x ≡ cond {A = Outcome A} t (refuses n) o
+    → (t ≡ false) × (gives x ≡ o)
+passed n true o is = let never : _≡_ {A = ℕ} 0 1 = cc in absurd (omega arith)
+passed n false o is = (refl, is)
+
+pub absent : {A : Type 0} (cs : List Cause) {x : A} (y : A) → gives x ≡ decided cs (gives y) → Absent cs
+absent [] y is = tt
+absent (c ∷ cs) y is =
+    let first = passed (c .number) (c .there) (decided cs (gives y)) is in
+    (first .0, absent cs y (first .1))

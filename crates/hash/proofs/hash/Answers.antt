@@ -1,13 +1,11 @@
-use mathlib.Core.Path.{_≡_, sym, ap, ap₂, _∙_}
-use Prim.Native.Nat.{_<_, _^_}
-use native.Mathlib.Omega.{arith}
+use mathlib.Core.Path.{_≡_, sym, ap, _∙_}
+use mathlib.Core.List.{List, map}
+use Prim.Native.Nat.{ℕ}
 use lib.ListN.{length}
-use Rattle.std.proofs.shelf.Tests.{le-ltb}
 use Rattle.refusal.specs.Outcomes.{gives}
-use Rattle.refusal.proofs.Decided.{undecided}
-use Rattle.hash.specs.Texts.{longest-text, chunk-count}
-use Rattle.hash.specs.Hash.{hash-causes, hash-of}
-use Rattle.hash.proofs.Horner.{small-own}
+use Rattle.refusal.proofs.Decided.{absent, undecided}
+use Rattle.hash.specs.Hash.{text-causes, hash-causes, hash-of}
+use Rattle.hash.proofs.Rings.{all-own}
 use Rattle.hash.proofs.hash.Needs as need
 
 pub returns : need.returns
@@ -15,14 +13,10 @@ returns g c =
     let m = g .F·Field .model in
     let ring = c .args .ring .now in
     let text = c .args .text .now in
-    let own = small-own (g .F·Field·met .holds) (length text) (omega arith) in
-    let value : c .reduce .result ≡ hash-of m ring text =
-    c .reduce .ensures ∙ c .sum .ensures .element ∙ ap₂ (m .plus) (c .polynomial-x .ensures .element) own in
-    ap gives value
-    ∙ undecided (hash-causes m ring text) (gives (hash-of m ring text)) (
-      le-ltb longest-text (length text) (c .if-text-gt-LONGEST-TEXT .left),
-      (
-        le-ltb (length ring) (chunk-count text) (omega arith),
-        (sym (c .if-too-large .ensures tt), tt),
-      ),
-    )
+    let none = absent (text-causes text (length ring)) tt (c .in-Continue-admit .ensures tt) in
+    let elements = c .if-too-large .ensures tt in
+    c .hash-by-working .ensures
+    ∙ sym (undecided (text-causes text (length ring)) (gives (hash-of m (map (m .means) ring) text)) none)
+    ∙ ap (λ (ks : List ℕ). gives (hash-of m ks text)) (all-own (g .F·Field·met .holds) ring elements)
+    ∙ undecided (hash-causes m ring text) (gives (hash-of m ring text))
+        (none .0, (none .1 .0, (sym elements, tt)))

@@ -63,14 +63,14 @@ module _ {m : Model} (laws : FieldLaws m) where
         let within : chunk-of i < length ring = served s some enough in
         let element : m .means (subkey ring i) ≡ subkey elements i = sym (getD-map (m .means) ring (chunk-of i) 0 0 within) in
         let pieces = cut-next text piece rest′ block-bytes i (sym (s .to-come) ∙ cut)
-            (long ∙ ap₂ (λ (n : ℕ) (xs : List ℕ). min n (length xs)) full (s .to-come)) in
+        (long ∙ ap₂ (λ (n : ℕ) (xs : List ℕ). min n (length xs)) full (s .to-come)) in
         record {
           few = omega arith;
           to-come = pieces .1 ∙ ap (λ (n : ℕ). drop (block-bytes * n) text) (sym next);
           value =
               is-product
               ∙ ap₂ (m .times)
-                  (is-sum ∙ ap₂ (m .plus) (s .value) (small-own b small ∙ is-block ∙ ap number (pieces .0)))
-                  (ap (λ (n : ℕ). m .means (subkey ring n)) here ∙ element)
+              (is-sum ∙ ap₂ (m .plus) (s .value) (small-own b small ∙ is-block ∙ ap number (pieces .0)))
+              (ap (λ (n : ℕ). m .means (subkey ring n)) here ∙ element)
               ∙ ap (after m elements text) (sym (next ∙ add-one i));
         }

@@ -2,3 +2,4 @@ pub mod Numbers
 pub mod Cutting
 pub mod Rings
 pub mod Horner
+pub mod Same

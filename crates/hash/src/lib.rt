@@ -3,6 +3,7 @@ ghost use mathlib.Core.Path.{_≡_};
 ghost use mathlib.Core.List.{map};
 ghost use Prim.Native.Nat.{_^_, _<_, _≤_};
 ghost use lib.ListN.{length};
+ghost use Rattle.std.specs.Vec.{made};
 ghost use Rattle.refusal.specs.Outcomes.{gives, told, decided};
 ghost use Rattle.hash.specs.Texts.{block-bytes, number, block-count, chunk-count};
 ghost use Rattle.hash.specs.Hash.{after, some-from, text-causes, hash-outcome, working-outcome};
@@ -74,7 +75,8 @@ pub fn admit(text: &[u8], places: usize) -> Result<(), Refusal>
 
 // The hash under the elements that the ring's working numbers mean. No branch depends on ring or text but for lengths.
 pub fn hash_by_working<F: Field>(ring: &[u64], text: &[u8]) -> Result<u64, Refusal>
-    ensures { λ r. ⌜ told r ≡ working-outcome (F·Field .model) (now (ring .entry)) (now (text .entry)) ⌝ }
+    ensures answer { λ r. ⌜ told r ≡ working-outcome (F·Field .model) (now (ring .entry)) (now (text .entry)) ⌝ }
+    ensures below { λ r. ⌜ made r (λ h. h < F·Field .model .size) ⌝ }
 {
     admit(text, ring.len())?;
     let x = polynomial::<F>(ring, text);

@@ -27,3 +27,6 @@ absent [] y is = tt
 absent (c ∷ cs) y is =
     let first = passed (c .number) (c .there) (decided cs (gives y)) is in
     (first .0, absent cs y (first .1))
+
+pub same-value : {A : Type 0} (cs : List Cause) {x : A} (y : A) → gives x ≡ decided cs (gives y) → x ≡ y
+same-value cs y is = let value = is ∙ sym (undecided cs (gives y) (absent cs y is)) in cc

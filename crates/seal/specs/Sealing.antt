@@ -2,7 +2,11 @@
 use mathlib.Core.Path.{_≡_}
 use mathlib.Core.List.{List, [], _∷_}
 use mathlib.Core.Logic.{_⊎_}
+use mathlib.Core.Bool.{Bool}
 use Prim.Native.Nat.{ℕ}
+use lib.Dec.{eqb, ltb}
+use lib.ListN.{length}
+use Rattle.refusal.specs.Outcomes.{Cause, _when_, Outcome, gives, decided}
 use Rattle.cipher.specs.declared.Block.{Block}
 use Rattle.cipher.specs.declared.Key.{Key}
 
@@ -33,3 +37,18 @@ pub record SealingLaws (S : Sealing) : Type 0 where
   -- no subkey's block is ever a seal's own: an own block that a seal asks for is that seal's own
   pub own-apart : (k : Key) (d e : ℕ) (x y : List ℕ) → Among (S .own-block k d x) (S .blocks k e y)
       → S .own-block k d x ≡ S .own-block k e y
+
+-- why a text is not sealed, where a ring list of so many places is lent
+abbrev pub text-causes : Sealing → List ℕ → ℕ → List Cause
+text-causes S text places =
+    9 when ltb (S .longest) (length text)
+    ∷ 10 when ltb places (S .chunks text)
+    ∷ []
+
+abbrev pub seal-outcome : Sealing → Key → ℕ → List ℕ → ℕ → Outcome ℕ
+seal-outcome S key draw text places = decided (text-causes S text places) (gives (S .seal key draw text))
+
+-- whether a seal is the text's
+abbrev pub check-outcome : Sealing → Key → ℕ → List ℕ → ℕ → ℕ → Outcome Bool
+check-outcome S key draw text seal places =
+    decided (text-causes S text places) (gives (eqb seal (S .seal key draw text)))

@@ -1,6 +1,8 @@
 -- The seal of a text under a key and a draw, over any field and any cipher. Assumes nothing.
+use mathlib.Core.Path.{_≡_}
 use mathlib.Core.List.{List, [], _∷_, _++_, map}
-use Prim.Native.Nat.{ℕ, _+_, _^_}
+use Prim.Native.Nat.{ℕ, _+_, _^_, _<_}
+use lib.ListN.{getD}
 use Rattle.std.specs.Iters.{counting}
 use Rattle.field.specs.Model.{Model}
 use Rattle.hash.specs.Texts.{longest-text, chunk-count}
@@ -25,6 +27,10 @@ module _ (m : Model) (f : Key → Block → Block) where
   -- the first n subkeys of a key
   abbrev pub ring : Key → ℕ → List ℕ
   ring key n = from-zero (subkey key) n
+
+  -- the first n places of a ring list are the first n subkeys of a key
+  abbrev pub Subkeys : Key → ℕ → List ℕ → Type 0
+  Subkeys key n places = (c : ℕ) → c < n → getD places c 0 ≡ subkey key c
 
   abbrev pub hash-under : Key → List ℕ → ℕ
   hash-under key text = hash-of m (ring key (chunk-count text)) text

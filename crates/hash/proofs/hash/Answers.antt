@@ -15,8 +15,8 @@ returns g c =
     let text = c .args .text .now in
     let none = absent (text-causes text (length ring)) tt (c .in-Continue-admit .ensures tt) in
     let elements = c .if-too-large .ensures tt in
-    c .hash-by-working .ensures
+    c .hash-by-working .ensures .answer
     ∙ sym (undecided (text-causes text (length ring)) (gives (hash-of m (map (m .means) ring) text)) none)
     ∙ ap (λ (ks : List ℕ). gives (hash-of m ks text)) (all-own (g .F·Field·met .holds) ring elements)
     ∙ undecided (hash-causes m ring text) (gives (hash-of m ring text))
-        (none .0, (none .1 .0, (sym elements, tt)))
+    (none .0, (none .1 .0, (sym elements, tt)))

@@ -26,5 +26,10 @@ returns g c =
     let short = ltb-false longest-text (length text) (none .0) in
     let own = small-own (g .F·Field·met .holds) (length text) (omega arith) in
     let value : c .reduce .result ≡ hash-of m (map (m .means) ring) text =
-        c .reduce .ensures ∙ c .sum .ensures .element ∙ ap₂ (m .plus) (c .polynomial-x .ensures .element) own in
-    ap gives value ∙ undecided (text-causes text (length ring)) (gives (hash-of m (map (m .means) ring) text)) none
+    c .reduce .ensures ∙ c .sum .ensures .element ∙ ap₂ (m .plus) (c .polynomial-x .ensures .element) own in
+    record {
+      answer =
+          ap gives value
+          ∙ undecided (text-causes text (length ring)) (gives (hash-of m (map (m .means) ring) text)) none;
+      below = rw (c .reduce .ensures) (g .F·Field·met .holds .means-below (c .sum .result));
+    }

@@ -10,4 +10,4 @@ Inv-loop-i g l =
     let blocks = enumerate-source (l .i-iterator) in
     (chunks-size blocks ≡ block-bytes)
     × Sofar (g .F·Field .model) (map (g .F·Field .model .means) (l .ring)) (l .text)
-        (enumerate-count (l .i-iterator)) (chunks-rest blocks) (l .x)
+    (enumerate-count (l .i-iterator)) (chunks-rest blocks) (l .x)

@@ -7,15 +7,25 @@ use lib.Dec.{lit<}
 use Rattle.std.specs.Written.{decimal}
 use Rattle.std.proofs.shelf.Decimals.{decimal-digit}
 use Rattle.refusal.specs.declared.Refusal.{Refusal}
-use Rattle.refusal.specs.declared.Refusal.the-variants.{TextTooLong, RingTooShort, SubkeyTooLarge, RecordCutShort, Undefined}
+use Rattle.refusal.specs.declared.Refusal.the-variants.{
+  GraveOutOfRange,
+  TextTooLong,
+  RingTooShort,
+  SubkeyTooLarge,
+  RecordCutShort,
+  Undefined,
+  BufferTooShort,
+}
 use Rattle.refusal.specs.Numbers.{number-of, digit}
 
 below-hundred : (r : Refusal) → number-of r < 100
+below-hundred GraveOutOfRange = lit< tt
 below-hundred TextTooLong = lit< tt
 below-hundred RingTooShort = lit< tt
 below-hundred SubkeyTooLarge = lit< tt
 below-hundred RecordCutShort = lit< tt
 below-hundred Undefined = lit< tt
+below-hundred BufferTooShort = lit< tt
 
 pub two-digits : (r : Refusal) (n : ℕ) → n ≡ number-of r
     → decimal (n / 10) ++ decimal (n % 10) ≡ digit (n / 10) ++ digit (n % 10)

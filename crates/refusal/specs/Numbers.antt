@@ -3,14 +3,24 @@ use mathlib.Core.List.{List, [], _∷_, _++_}
 use Prim.Native.Nat.{ℕ, _+_, _/_, _%_}
 use lib.Chars.{codes}
 use Rattle.refusal.specs.declared.Refusal.{Refusal}
-use Rattle.refusal.specs.declared.Refusal.the-variants.{TextTooLong, RingTooShort, SubkeyTooLarge, RecordCutShort, Undefined}
+use Rattle.refusal.specs.declared.Refusal.the-variants.{
+  GraveOutOfRange,
+  TextTooLong,
+  RingTooShort,
+  SubkeyTooLarge,
+  RecordCutShort,
+  Undefined,
+  BufferTooShort,
+}
 
 abbrev pub number-of : Refusal → ℕ
+number-of GraveOutOfRange = 1
 number-of TextTooLong = 9
 number-of RingTooShort = 10
 number-of SubkeyTooLarge = 13
 number-of RecordCutShort = 14
 number-of Undefined = 15
+number-of BufferTooShort = 16
 
 -- the bytes of a digit
 abbrev pub digit : ℕ → List ℕ

@@ -6,6 +6,8 @@ use std::fmt;
 
 #[derive(Clone, Copy, PartialEq, Eq, Debug)]
 pub enum Refusal {
+    // 1: the grave's number is above 255
+    GraveOutOfRange,
     // 9: the text has more bytes than a text may have
     TextTooLong,
     // 10: the ring has fewer places than the text has chunks
@@ -16,6 +18,8 @@ pub enum Refusal {
     RecordCutShort,
     // 15: the record's kind, field or count of subkeys is none that is defined
     Undefined,
+    // 16: the buffer is too short for the record
+    BufferTooShort,
 }
 
 impl Refusal {
@@ -23,11 +27,13 @@ impl Refusal {
         ensures { λ r. ⌜ r ≡ number-of self ⌝ }
     {
         match self {
+            Refusal::GraveOutOfRange => 1,
             Refusal::TextTooLong => 9,
             Refusal::RingTooShort => 10,
             Refusal::SubkeyTooLarge => 13,
             Refusal::RecordCutShort => 14,
             Refusal::Undefined => 15,
+            Refusal::BufferTooShort => 16,
         }
     }
 }

@@ -6,10 +6,9 @@ ghost use lib.ListN.{length};
 ghost use Rattle.refusal.specs.Outcomes.{told};
 ghost use Rattle.hash.specs.Texts.{block-bytes, longest-text, number, block-count, chunk-count};
 ghost use Rattle.hash.specs.Hash.{after, some-from, hash-outcome};
+pub use bytes::LONGEST_TEXT;
 use field::Field;
 use refusal::Refusal;
-
-pub const LONGEST_TEXT: usize = 57_344;
 
 const BLOCK_BYTES: usize = 7;
 

@@ -1,11 +1,13 @@
 -- A number is that of its bytes, and bytes are those of their number. Assumes nothing.
 use mathlib.Core.Path.{_≡_, refl, sym, ap, ap₂, _∙_}
-use mathlib.Core.List.{List, [], _∷_}
-use Prim.Native.Nat.{ℕ, zero, suc, _+_, _*_, _/_, _%_, _^_, _<_}
+use mathlib.Core.List.{List, [], _∷_, _++_}
+use Prim.Native.Nat.{ℕ, zero, suc, _+_, _*_, _/_, _%_, _^_, _≤_, _<_}
 use native.Mathlib.Nat.{pow-succ', div-div-eq-div-mul}
 use native.Mathlib.Omega.{arith}
-use lib.ListN.{length}
+use lib.ListN.{length, take, drop}
 use Rattle.std.specs.shelf.Lists.{All}
+use Rattle.std.proofs.shelf.Lists.{length-take-le, take-append-drop}
+use Rattle.std.proofs.shelf.Elements.{all-take}
 use Rattle.bytes.specs.Numbers.{number, bytes-of}
 
 pub length-bytes-of : (n x : ℕ) → length (bytes-of n x) ≡ n
@@ -19,7 +21,10 @@ number-bytes-of (suc n) x small =
     let back = number-bytes-of n (x / 256) (omega arith) in
     omega arith
 
-pub bytes-of-number : (bs : List ℕ) → All (λ b. b < 256) bs → bytes-of (length bs) (number bs) ≡ bs
+abbrev pub Bytes : List ℕ → Type 0
+Bytes bs = All (λ b. b < 256) bs
+
+pub bytes-of-number : (bs : List ℕ) → Bytes bs → bytes-of (length bs) (number bs) ≡ bs
 bytes-of-number [] bytes = refl
 bytes-of-number (b ∷ bs) bytes =
     let small = bytes .0 in
@@ -27,6 +32,14 @@ bytes-of-number (b ∷ bs) bytes =
     let high : (b + 256 * number bs) / 256 ≡ number bs = omega arith in
     ap₂ (λ (c : ℕ) (cs : List ℕ). c ∷ cs) low
     (ap (bytes-of (length bs)) high ∙ bytes-of-number bs (bytes .1))
+
+-- a number at the front of bytes, written out again
+pub front-back : (n : ℕ) (bs : List ℕ) → n ≤ length bs → Bytes bs → bytes-of n (number (take n bs)) ++ drop n bs ≡ bs
+front-back n bs enough bytes =
+    let long = length-take-le n bs enough in
+    ap (λ (k : ℕ). bytes-of k (number (take n bs)) ++ drop n bs) (sym long)
+    ∙ ap (λ (front : List ℕ). front ++ drop n bs) (bytes-of-number (take n bs) (all-take (λ b. b < 256) n bs bytes))
+    ∙ take-append-drop n bs
 
 -- the n bytes of x from the one of worth d up
 abbrev pub from-worth : ℕ → ℕ → ℕ → List ℕ

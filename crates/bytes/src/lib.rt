@@ -3,6 +3,9 @@
 ghost use mathlib.Core.Path.{_≡_};
 ghost use Rattle.bytes.specs.Fronts.{front, read};
 
+// The most bytes that a text may have.
+pub const LONGEST_TEXT: usize = 57_344;
+
 pub fn take_u8(bytes: &[u8]) -> Option<(u8, &[u8])>
     ensures { λ r. ⌜ read r ≡ front 1 (now (bytes .entry)) ⌝ }
 {
@@ -10,6 +13,15 @@ pub fn take_u8(bytes: &[u8]) -> Option<(u8, &[u8])>
         return None;
     };
     Some((*b0, rest))
+}
+
+pub fn take_u16(bytes: &[u8]) -> Option<(u16, &[u8])>
+    ensures { λ r. ⌜ read r ≡ front 2 (now (bytes .entry)) ⌝ }
+{
+    let [b0, b1, rest @ ..] = bytes else {
+        return None;
+    };
+    Some((u16::from_le_bytes([*b0, *b1]), rest))
 }
 
 pub fn take_u64(bytes: &[u8]) -> Option<(u64, &[u8])>

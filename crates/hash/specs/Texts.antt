@@ -2,6 +2,7 @@
 use mathlib.Core.List.{List}
 use Prim.Native.Nat.{ℕ, _+_, _-_, _*_, _/_}
 use lib.ListN.{length, take, drop}
+pub use Rattle.bytes.specs.Limits.{longest-text}
 pub use Rattle.bytes.specs.Numbers.{number}
 
 abbrev pub block-bytes : ℕ
@@ -9,10 +10,6 @@ block-bytes = 7
 
 abbrev pub chunk-blocks : ℕ
 chunk-blocks = 1024
-
--- eight chunks
-abbrev pub longest-text : ℕ
-longest-text = 57344
 
 -- how many groups of k the n things make, of which the last may be smaller
 abbrev pub groups : ℕ → ℕ → ℕ

@@ -7,10 +7,9 @@ ghost use Rattle.std.specs.Vec.{made};
 ghost use Rattle.refusal.specs.Outcomes.{gives, told, decided};
 ghost use Rattle.hash.specs.Texts.{block-bytes, number, block-count, chunk-count};
 ghost use Rattle.hash.specs.Hash.{after, some-from, text-causes, hash-outcome, working-outcome};
+pub use bytes::LONGEST_TEXT;
 use field::Field;
 use refusal::Refusal;
-
-pub const LONGEST_TEXT: usize = 57_344;
 
 const BLOCK_BYTES: usize = 7;
 

@@ -1,1 +1,2 @@
 mod Framed
+pub mod Back

@@ -7,15 +7,43 @@ use lib.Dec.{lit<}
 use Rattle.std.specs.Written.{decimal}
 use Rattle.std.proofs.shelf.Decimals.{decimal-digit}
 use Rattle.refusal.specs.declared.Refusal.{Refusal}
-use Rattle.refusal.specs.declared.Refusal.the-variants.{TextTooLong, RingTooShort, SubkeyTooLarge, RecordCutShort, Undefined}
+use Rattle.refusal.specs.declared.Refusal.the-variants.{
+  GraveOutOfRange,
+  GraveNotFree,
+  KeyUsed,
+  GraveFreeOrClosed,
+  GraveLocked,
+  FourDrawsHeld,
+  DrawsExhausted,
+  DrawNotHeld,
+  TextTooLong,
+  RingTooShort,
+  DrawNotHandedOut,
+  SealWrong,
+  SubkeyTooLarge,
+  RecordCutShort,
+  Undefined,
+  BufferTooShort,
+}
 use Rattle.refusal.specs.Numbers.{number-of, digit}
 
 below-hundred : (r : Refusal) → number-of r < 100
+below-hundred GraveOutOfRange = lit< tt
+below-hundred GraveNotFree = lit< tt
+below-hundred KeyUsed = lit< tt
+below-hundred GraveFreeOrClosed = lit< tt
+below-hundred GraveLocked = lit< tt
+below-hundred FourDrawsHeld = lit< tt
+below-hundred DrawsExhausted = lit< tt
+below-hundred DrawNotHeld = lit< tt
 below-hundred TextTooLong = lit< tt
 below-hundred RingTooShort = lit< tt
+below-hundred DrawNotHandedOut = lit< tt
+below-hundred SealWrong = lit< tt
 below-hundred SubkeyTooLarge = lit< tt
 below-hundred RecordCutShort = lit< tt
 below-hundred Undefined = lit< tt
+below-hundred BufferTooShort = lit< tt
 
 pub two-digits : (r : Refusal) (n : ℕ) → n ≡ number-of r
     → decimal (n / 10) ++ decimal (n % 10) ≡ digit (n / 10) ++ digit (n % 10)

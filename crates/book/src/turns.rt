@@ -1,0 +1,141 @@
+// What each call makes of its grave's record, or why it is refused there.
+ghost use mathlib.Core.Path.{_≡_};
+ghost use mathlib.Core.List.{[], _∷_};
+ghost use Rattle.refusal.specs.Outcomes.{gives, decided};
+ghost use Rattle.promise.specs.Register.{draw-causes, void-causes, use-causes, after-open, after-draw, after-seal, after-void, after-clear, after-close, after-false-seal};
+ghost use Rattle.promise.specs.Register as rule;
+ghost use Rattle.book.specs.Entries.{the-record, turned, standing-of};
+ghost use Rattle.book.specs.Turns.{open-here, check-here};
+use crate::entry::next_state;
+use crate::entry::Entry;
+use crate::entry::Event;
+use crate::held;
+use crate::held::Held;
+use crate::record::Record;
+use seal::Key;
+use seal::Refusal;
+
+// How many draws a grave hands out in all.
+const MOST_DRAWS: u64 = 1_000_000;
+
+pub fn opened(before: Record, key: Key) -> Result<Record, Refusal>
+    ensures { λ r. ⌜ turned r ≡ decided (open-here (the-record before)) (gives (after-open key (the-record before))) ⌝ }
+{
+    let entry = before.entry;
+    let state = next_state(entry.state, Event::Open)?;
+    Ok(Record {
+        entry: Entry { state, key, ..entry },
+    })
+}
+
+pub fn drawn(before: Record) -> Result<Record, Refusal>
+    ensures { λ r. ⌜ turned r ≡ decided (draw-causes 0 (the-record before)) (gives (after-draw (the-record before))) ⌝ }
+{
+    let entry = before.entry;
+    let state = next_state(entry.state, Event::Draw)?;
+    let Some(held) = held::push(entry.held, entry.next) else {
+        return Err(Refusal::FourDrawsHeld);
+    };
+    if entry.next >= MOST_DRAWS {
+        return Err(Refusal::DrawsExhausted);
+    }
+    Ok(Record {
+        entry: Entry {
+            state,
+            next: entry.next + 1,
+            held,
+            ..entry
+        },
+    })
+}
+
+pub fn sealed(before: Record, draw: u64) -> Result<Record, Refusal>
+    ensures { λ r. ⌜ turned r ≡ decided (void-causes (the-record before) draw) (gives (after-seal draw (the-record before))) ⌝ }
+{
+    let entry = before.entry;
+    let state = next_state(entry.state, Event::Seal)?;
+    let Some(held) = held::remove(entry.held, draw) else {
+        return Err(Refusal::DrawNotHeld);
+    };
+    Ok(Record {
+        entry: Entry {
+            state,
+            held,
+            sealed: entry.sealed + 1,
+            current: Some(draw),
+            ..entry
+        },
+    })
+}
+
+pub fn voided(before: Record, draw: u64) -> Result<Record, Refusal>
+    ensures { λ r. ⌜ turned r ≡ decided (void-causes (the-record before) draw) (gives (after-void draw (the-record before))) ⌝ }
+{
+    let entry = before.entry;
+    let state = next_state(entry.state, Event::Void)?;
+    let Some(held) = held::remove(entry.held, draw) else {
+        return Err(Refusal::DrawNotHeld);
+    };
+    Ok(Record {
+        entry: Entry {
+            state,
+            held,
+            voided: entry.voided + 1,
+            ..entry
+        },
+    })
+}
+
+// The record with one false seal more, which the fourth locks; refused where a check is.
+pub fn with_false_seal(before: Record) -> Result<Record, Refusal>
+    ensures { λ r. ⌜ turned r ≡ decided (check-here (the-record before)) (gives (after-false-seal (the-record before))) ⌝ }
+{
+    let entry = before.entry;
+    let state = next_state(entry.state, Event::FalseSeal)?;
+    Ok(Record {
+        entry: Entry { state, ..entry },
+    })
+}
+
+pub fn cleared(before: Record) -> Result<Record, Refusal>
+    ensures { λ r. ⌜ turned r ≡ decided (use-causes 0 (the-record before)) (gives (after-clear (the-record before))) ⌝ }
+{
+    let entry = before.entry;
+    let state = next_state(entry.state, Event::Clear)?;
+    Ok(Record {
+        entry: Entry { state, ..entry },
+    })
+}
+
+// The held draws count as voided.
+pub fn closed(before: Record) -> Result<Record, Refusal>
+    ensures { λ r. ⌜ turned r ≡ decided (use-causes 0 (the-record before)) (gives (after-close (the-record before))) ⌝ }
+{
+    let entry = before.entry;
+    let state = next_state(entry.state, Event::Close)?;
+    let owed = held::count(entry.held);
+    Ok(Record {
+        entry: Entry {
+            state,
+            held: Held::Zero,
+            voided: entry.voided + owed,
+            ..entry
+        },
+    })
+}
+
+// What an accepted sheet is: of the grave's newest draw, or of an older one.
+#[derive(Clone, Copy, PartialEq, Eq, Debug)]
+pub enum Standing {
+    Current,
+    Superseded,
+}
+
+pub fn standing_of(current: Option<u64>, draw: u64) -> Standing
+    ensures { λ r. ⌜ standing-of r ≡ rule.standing current draw ⌝ }
+{
+    match current {
+        Some(newest) if newest == draw => Standing::Current,
+        _ => Standing::Superseded,
+    }
+}

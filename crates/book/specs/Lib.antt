@@ -3,3 +3,4 @@ pub mod States
 pub mod Sound
 pub mod Entries
 pub mod Turns
+pub mod Calls

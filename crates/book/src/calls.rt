@@ -1,0 +1,175 @@
+// The book: 256 graves, one field and one cipher.
+ghost use mathlib.Core.Path.{_≡_};
+ghost use mathlib.Core.List.{[]};
+ghost use Prim.Native.Nat.{ℕ, _<_};
+ghost use lib.ListN.{length, replicate};
+ghost use Rattle.std.specs.Vec.{made, refused};
+ghost use Rattle.seal.specs.Seals.{sealing};
+ghost use Rattle.promise.specs.History.{to-open, to-draw, to-seal, to-void, to-check, to-clear, to-close};
+ghost use Rattle.promise.specs.Register.{new, is-used, Reached};
+ghost use Rattle.promise.specs.Promise.{Promise};
+ghost use Rattle.book.specs.Entries.{records};
+ghost use Rattle.book.specs.Calls.{Done, drawn-told, sealed-told, checked-told, plain-told, account-told, tell-outcome, Owing, sheet};
+use crate::entry::Entry;
+use crate::entry::State;
+use crate::held;
+use crate::held::Held;
+use crate::record::Record;
+use crate::turns;
+use crate::turns::Standing;
+use seal::admit;
+use seal::check_seal;
+use seal::seal_text;
+use seal::Cipher;
+use seal::Field;
+use seal::Key;
+use seal::Refusal;
+use seal::Wipe;
+
+// A draw: the right to seal one sheet at a grave. Only `Book::draw` makes one, and only `Book::seal` and `Book::void`
+// take one; it cannot be let go, copied or made up.
+pub struct Draw {
+    grave: u8,
+    number: u64,
+}
+
+impl Draw {
+    pub fn grave(&self) -> u8
+        ensures { λ r. ⌜ r ≡ now (self .entry) .grave ⌝ }
+    {
+        self.grave
+    }
+
+    pub fn number(&self) -> u64
+        ensures { λ r. ⌜ r ≡ now (self .entry) .number ⌝ }
+    {
+        self.number
+    }
+
+    // The end of a draw that seal or void took.
+    fn spend(self) {
+        let Draw {
+            grave: _,
+            number: _,
+        } = self;
+    }
+}
+
+// A draw that was not sealed, handed back with the reason.
+pub struct Returned {
+    pub refusal: Refusal,
+    pub draw: Draw,
+}
+
+// What the book tells of a grave.
+#[derive(Clone, Copy)]
+pub struct Account {
+    pub state: State,
+    pub sealed: u64,
+    pub voided: u64,
+    pub held: u64,
+    pub current: Option<u64>,
+}
+
+const FREE: Record = Record {
+    entry: Entry {
+        state: State::Free,
+        key: Key {
+            first: 0,
+            second: 0,
+        },
+        next: 0,
+        held: Held::Zero,
+        sealed: 0,
+        voided: 0,
+        current: None,
+    },
+};
+
+const LAST_GRAVE: u16 = 255;
+
+struct Graves {
+    table: [Record; 256],
+}
+
+pub struct Book<F, C> {
+    field: F,
+    cipher: C,
+    graves: Graves,
+}
+
+impl<F: Field, C: Cipher> Book<F, C> {
+    // A new book, all of whose graves are free. Its promise holds of every run of calls that begins here.
+    pub fn new(field: F, cipher: C) -> Book<F, C>
+        ensures kept { λ r. ⌜ (r .field ≡ field) × (r .cipher ≡ cipher) ⌝ }
+        ensures table { λ r. ⌜ records (r .graves .table) ≡ new ⌝ }
+        ensures starts { λ r. ⌜ Reached (sealing (F·Field .model) (C·Cipher .function (r .cipher))) [] (records (r .graves .table)) ⌝ }
+    {
+        Book {
+            field,
+            cipher,
+            graves: Graves { table: [FREE; 256] },
+        }
+    }
+
+    // Hands out the grave's next draw.
+    pub fn draw(&mut self, grave: u16) -> Result<Draw, Refusal>
+        ensures done { λ r. ⌜ Done (sealing (F·Field .model) (C·Cipher .function (now (self .entry) .cipher))) (records (now (self .entry) .graves .table)) (to-draw grave) (drawn-told r) (sealing (F·Field .model) (C·Cipher .function (now (self .exit) .cipher))) (records (now (self .exit) .graves .table)) ⌝ }
+        ensures token { λ r. ⌜ made r (λ d. d .grave ≡ grave) ⌝ }
+        ensures kept { λ _. ⌜ (now (self .exit) .field ≡ now (self .entry) .field) × (now (self .exit) .cipher ≡ now (self .entry) .cipher) ⌝ }
+    {
+        if grave > LAST_GRAVE {
+            return Err(Refusal::GraveOutOfRange);
+        }
+        let record = &mut self.graves.table[grave as usize];
+        let number = record.entry.next;
+        let after = turns::drawn(*record)?;
+        *record = after;
+        Ok(Draw {
+            grave: grave as u8,
+            number,
+        })
+    }
+
+    // Takes the draw in every case, and says why where it was not voided.
+    pub fn void(&mut self, draw: Draw) -> Result<(), Refusal>
+        ensures done { λ r. ⌜ Done (sealing (F·Field .model) (C·Cipher .function (now (self .entry) .cipher))) (records (now (self .entry) .graves .table)) (to-void (draw .grave) (draw .number)) (plain-told r) (sealing (F·Field .model) (C·Cipher .function (now (self .exit) .cipher))) (records (now (self .exit) .graves .table)) ⌝ }
+        ensures kept { λ _. ⌜ (now (self .exit) .field ≡ now (self .entry) .field) × (now (self .exit) .cipher ≡ now (self .entry) .cipher) ⌝ }
+    {
+        let grave = draw.grave;
+        let number = draw.number;
+        draw.spend();
+        let record = &mut self.graves.table[grave as usize];
+        let after = turns::voided(*record, number)?;
+        *record = after;
+        Ok(())
+    }
+
+    // False seals become none, and a locked grave is open.
+    pub fn clear(&mut self, grave: u16) -> Result<(), Refusal>
+        ensures done { λ r. ⌜ Done (sealing (F·Field .model) (C·Cipher .function (now (self .entry) .cipher))) (records (now (self .entry) .graves .table)) (to-clear grave) (plain-told r) (sealing (F·Field .model) (C·Cipher .function (now (self .exit) .cipher))) (records (now (self .exit) .graves .table)) ⌝ }
+        ensures kept { λ _. ⌜ (now (self .exit) .field ≡ now (self .entry) .field) × (now (self .exit) .cipher ≡ now (self .entry) .cipher) ⌝ }
+    {
+        if grave > LAST_GRAVE {
+            return Err(Refusal::GraveOutOfRange);
+        }
+        let record = &mut self.graves.table[grave as usize];
+        let after = turns::cleared(*record)?;
+        *record = after;
+        Ok(())
+    }
+
+    // Closes the grave for good; the draws that it holds count as voided.
+    pub fn close(&mut self, grave: u16) -> Result<(), Refusal>
+        ensures done { λ r. ⌜ Done (sealing (F·Field .model) (C·Cipher .function (now (self .entry) .cipher))) (records (now (self .entry) .graves .table)) (to-close grave) (plain-told r) (sealing (F·Field .model) (C·Cipher .function (now (self .exit) .cipher))) (records (now (self .exit) .graves .table)) ⌝ }
+        ensures kept { λ _. ⌜ (now (self .exit) .field ≡ now (self .entry) .field) × (now (self .exit) .cipher ≡ now (self .entry) .cipher) ⌝ }
+    {
+        if grave > LAST_GRAVE {
+            return Err(Refusal::GraveOutOfRange);
+        }
+        let record = &mut self.graves.table[grave as usize];
+        let after = turns::closed(*record)?;
+        *record = after;
+        Ok(())
+    }
+}

@@ -1,1 +1,0 @@
--- What the law refutes. Assumes nothing.

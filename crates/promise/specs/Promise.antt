@@ -1,0 +1,120 @@
+-- What the book promises of every run, whatever calls are made. Assumes nothing.
+use mathlib.Core.Path.{_≡_}
+use mathlib.Core.Logic.{_⊎_, _≢_}
+use mathlib.Core.Bool.{Bool, true, false}
+use mathlib.Core.List.{List, [], _∷_}
+use Prim.Native.Nat.{ℕ, _+_, _<_, _≤_}
+use lib.ListN.{length}
+use Rattle.std.specs.declared.option.Option.{Option}
+use Rattle.std.specs.declared.option.Option.the-variants.{Some, None}
+use Rattle.std.specs.shelf.Lists.{All}
+use Rattle.cipher.specs.declared.Block.{Block}
+use Rattle.cipher.specs.declared.Key.{Key}
+use Rattle.refusal.specs.Outcomes.{Outcome, gives, refuses}
+use Rattle.field.specs.Model.{Model}
+use Rattle.bound.specs.Counting.{Distinct}
+use Rattle.bound.specs.Bound.{Only-zero-makes-zero, Collision-bound}
+use Rattle.seal.specs.Sealing.{Sealing, Among}
+use Rattle.promise.specs.History.{
+  Sheet, Standing, Act, opened, drawn, sealed, voided, checked, cleared, closed, History, acts,
+}
+use Rattle.promise.specs.Past.{
+  key, in-use, false-seals, Is-open, handed-out, sheets, newest, held, voids, sealed-under,
+}
+use Rattle.promise.specs.Register.{
+  State, Free, Open, Locked, Closed, Record, no-key, in-use-with, Table, grave, standing, Reached,
+}
+
+-- A grave's draws: how many were handed out, sealed and voided, and which are held.
+pub record Add-up (handed sealed voided : ℕ) (held : List ℕ) : Type 0 where
+  pub sum : handed ≡ (sealed + voided) + length held
+  pub held-once : Distinct held
+  pub held-handed : All (λ d. d < handed) held
+  pub held-few : length held ≤ 4
+  pub handed-few : handed ≤ 1000000
+
+abbrev pub Draws-add-up : List Act → Type 0
+Draws-add-up past = Add-up (handed-out past) (length (sheets past)) (voids past) (held past)
+
+-- Checks. Something was done at a grave; then sheet s was checked there with p places for subkeys.
+module _ (S : Sealing) where
+  -- a sheet sealed here earlier, with room for its subkeys, while the grave is open
+  pub record Untouched (past : List Act) (s : Sheet) (p : ℕ) : Type 0 where
+    pub sealed-here : Among s (sheets past)
+    pub room : S .chunks (s .text) ≤ p
+    pub open-then : Is-open past
+
+  -- a text was sealed here under the draw, and P of it
+  abbrev pub Sealed-under : List Act → ℕ → (List ℕ → Type 0) → Type 0
+  Sealed-under past d P = (s : Sheet) × Among s (sheets past) × (s .draw ≡ d) × P (s .text)
+
+  -- no seal made here asked the cipher for the block
+  abbrev pub Never-asked : List Act → Key → Block → Type 0
+  Never-asked past k b = (s : Sheet) → Among s (sheets past) → Among b (S .blocks k (s .draw) (s .text)) → ⊥
+
+  -- what a sheet is that passes, and its standing
+  pub record Earned (past : List Act) (s : Sheet) (v : Standing) : Type 0 where
+    pub open-then : Is-open past
+    pub by : Key
+    pub by-is : key past ≡ Some by
+    pub true-seal : s .seal ≡ S .seal by (s .draw) (s .text)
+    -- the text was sealed under the draw, or another that shares its hash was, or the seal is the cipher's first number
+    -- for a block that no seal made here ever asked for
+    pub known :
+        Sealed-under past (s .draw) (λ x. x ≡ s .text)
+        ⊎ (Sealed-under past (s .draw) (λ x. (x ≢ s .text) × (S .hash by x ≡ S .hash by (s .text)))
+        ⊎ ((s .seal ≡ S .answer by (S .own-block by (s .draw) (s .text)) .first)
+        × Never-asked past by (S .own-block by (s .draw) (s .text))))
+    pub standing-is : v ≡ standing (newest (sheets past)) (s .draw)
+
+  -- what passes was earned, and what is turned away was no untouched sheet
+  abbrev pub Fair : List Act → Sheet → ℕ → Outcome Standing → Type 0
+  Fair past s p (gives v) = Earned past s v
+  Fair past s p (refuses n) = Untouched past s p → ⊥
+
+  -- every check that was made at a grave was fair
+  abbrev pub Checks-fair : List Act → Type 0
+  Checks-fair [] = Unit {0}
+  Checks-fair (opened k ∷ past) = Checks-fair past
+  Checks-fair (drawn d ∷ past) = Checks-fair past
+  Checks-fair (sealed s ∷ past) = Checks-fair past
+  Checks-fair (voided d ∷ past) = Checks-fair past
+  Checks-fair (checked s p o ∷ past) = Fair past s p o × Checks-fair past
+  Checks-fair (cleared ∷ past) = Checks-fair past
+  Checks-fair (closed ∷ past) = Checks-fair past
+
+  -- the law of what happened
+  pub record Law (h : History) : Type 0 where
+    pub draws-add-up : (g : ℕ) → Draws-add-up (acts g h)
+    pub one-sheet-a-draw : Distinct (sealed-under h)
+    pub one-grave-a-key : (g i : ℕ) (k : Key) → key (acts g h) ≡ Some k → key (acts i h) ≡ Some k → g ≡ i
+    pub checks-fair : (g : ℕ) → Checks-fair (acts g h)
+
+-- A grave's record, read off what was done there.
+
+abbrev pub state-of : Option Key → Bool → ℕ → State
+state-of None u n = Free
+state-of (Some k) true n = in-use-with n
+state-of (Some k) false n = Closed
+
+abbrev pub key-or-none : Option Key → Key
+key-or-none None = no-key
+key-or-none (Some k) = k
+
+abbrev pub recorded : List Act → Record
+recorded past = record {
+  state = state-of (key past) (in-use past) (false-seals past);
+  key = key-or-none (key past);
+  next = handed-out past;
+  held = held past;
+  sealed = length (sheets past);
+  voided = voids past;
+  newest = newest (sheets past);
+}
+
+-- Over a field and a sealing, whatever calls are made on a new book: the law holds of all that happened, and each record
+-- says what was done at its grave. And two texts seldom share a hash, if only a zero factor makes a zero product.
+pub record Promise (m : Model) (S : Sealing) : Type 0 where
+  pub law-holds : (h : History) (t : Table) → Reached S h t → Law S h
+  pub records-true : (h : History) (t : Table) → Reached S h t → (g : ℕ) → grave t g ≡ recorded (acts g h)
+  pub collisions-few : Only-zero-makes-zero m → Collision-bound m

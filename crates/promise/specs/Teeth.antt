@@ -1,0 +1,1 @@
+-- What the law refutes. Assumes nothing.

@@ -9,6 +9,8 @@ mod Pasts
 mod Checks
 -- all graves, and the theorem
 mod Runs
+mod Opened
+mod Sealed
 mod Calls
 pub mod Theorem
 pub mod Continues

@@ -55,3 +55,11 @@ pub one-false-seal-more : (o : Option Key) (u : Bool) (n : ℕ) → free-or-clos
 one-false-seal-more None u n f l = absurd (true≢false f)
 one-false-seal-more (Some k) true n f l = ap one-more (open-state k n (below-four (Some k) true n f l))
 one-false-seal-more (Some k) false n f l = absurd (true≢false f)
+
+pub cleared-state : (o : Option Key) (u : Bool) → Used o u → Open 0 ≡ state-of o u 0
+cleared-state o u w =
+    ap (λ (u : Bool). state-of (Some (key-or-none o)) u 0) (sym (w .in-use-now))
+    ∙ ap (λ (o : Option Key). state-of o u 0) (sym (w .its-key))
+
+pub closed-state : (o : Option Key) (u : Bool) (n : ℕ) → Used o u → Closed ≡ state-of o false n
+closed-state o u n w = ap (λ (o : Option Key). state-of o false n) (sym (w .its-key))

@@ -13,7 +13,7 @@ use Rattle.std.specs.declared.option.Option.the-variants.{Some, None}
 use Rattle.std.proofs.shelf.Equals.{sameBytes-decides}
 use Rattle.std.proofs.shelf.Ways.{not-from-decides}
 use Rattle.std.proofs.shelf.Tests.{
-  le-ltb, lt-leb, eq-eqb, eqb-true, not-false, not-from-true, cases-eq, cases-bool,
+  ltb-false, leb-false, le-ltb, lt-leb, eq-eqb, eqb-true, not-false, not-from-true, cases-eq, cases-bool,
 }
 use Rattle.cipher.specs.declared.Key.{Key}
 use Rattle.refusal.specs.Outcomes.{Outcome, gives, refuses, Cause, decided}
@@ -24,7 +24,7 @@ use Rattle.promise.specs.Register.{
   State, Open, is-free, free-or-closed, is-locked, check-causes, standing,
 }
 use Rattle.promise.specs.Promise.{
-  Untouched, Sealed-under, Never-asked, Earned, Fair, state-of, key-or-none, recorded,
+  Untouched, Known, was-sealed, shares-hash, never-asked, Earned, Fair, state-of, key-or-none, recorded,
 }
 use Rattle.promise.proofs.Among.{all-among, some-or-none}
 use Rattle.promise.proofs.Causes.{None-there, refuses≢gives, given-where-none, none-where-given}
@@ -38,7 +38,7 @@ cases-text x y =
       | inr f ↦ inr (not-from-decides (sameBytes x y) (sameBytes-decides x y) f)
     ]
 
-module _ (S : Sealing) (L : SealingLaws S) (past : List Act) (k : Key) (d : ℕ) (x : List ℕ) where
+module _ (S : Sealing) (L : SealingLaws S) (k : Key) (d : ℕ) (x : List ℕ) where
   -- the sheet has the draw, and its text the hash
   abbrev Meets : Sheet → Type 0
   Meets s = (s .draw ≡ d) × (S .hash k (s .text) ≡ S .hash k x)
@@ -58,17 +58,23 @@ module _ (S : Sealing) (L : SealingLaws S) (past : List Act) (k : Key) (d : ℕ)
       let alike = L .own-alike k d (s .draw) x (s .text) (L .own-apart k d (s .draw) x (s .text) asked) in
       (sym (alike .0), sym (alike .1))
 
-  -- the text was sealed under the draw, or another with its hash was, or nothing ever asked for its block
-  known : Sealed-under S past d (λ y. y ≡ x)
-      ⊎ (Sealed-under S past d (λ y. (y ≢ x) × (S .hash k y ≡ S .hash k x)) ⊎ Never-asked S past k (S .own-block k d x))
-  known =
-      elim (some-or-none Meets cases-meets (sheets past)) [
-        | inl w ↦ elim (cases-text (w .0 .text) x) [
-          | inl same ↦ inl (w .0, w .1, w .2 .0, same)
-          | inr other ↦ inr (inl (w .0, w .1, w .2 .0, (other, w .2 .1)))
-        ]
-        | inr none ↦ inr (inr (λ s i asked. none s i (asked-meets s asked)))
+-- some sheet here has the draw and the hash, with this text or another, or nothing here asked for the own block
+known : (S : Sealing) → SealingLaws S → (past : List Act) (k : Key) (s : Sheet) →
+    s .seal ≡ S .seal k (s .draw) (s .text) → Known S past k s
+known S L past k s true-seal =
+    elim (some-or-none (Meets S L k d x) (cases-meets S L k d x) (sheets past)) [
+      | inl w ↦ elim (cases-text (w .0 .text) x) [
+        | inl same ↦ was-sealed (w .0, w .1, w .2 .0, same)
+        | inr other ↦ shares-hash (w .0, w .1, w .2 .0, (other, w .2 .1))
       ]
+      | inr none ↦ never-asked (true-seal ∙ L .seal-answer k d x) (λ r i asked. none r i (asked-meets S L k d x r asked))
+    ]
+  where
+    d : ℕ
+    d = s .draw
+
+    x : List ℕ
+    x = s .text
 
 module _ (S : Sealing) (L : SealingLaws S) (g : ℕ) {past : List Act} (P : Sound S past) (s : Sheet) (p : ℕ) where
   abbrev causes : List Cause
@@ -80,23 +86,21 @@ module _ (S : Sealing) (L : SealingLaws S) (g : ℕ) {past : List Act} (P : Soun
       let k = key-or-none (key past) in
       let t = eqb-true (s .seal) (S .seal k (s .draw) (s .text)) (not-false _ (none .1 .1 .1 .1 .1 .1 .0)) in record {
         open-then = (u .in-use-now, below-four (key past) (in-use past) (false-seals past) (none .1 .0) (none .1 .1 .0));
-        by = k;
-        by-is = u .its-key;
-        true-seal = t;
-        known = elim (known S L past k (s .draw) (s .text)) [
-          | inl same ↦ inl same
-          | inr rest ↦ elim rest [
-            | inl shares ↦ inr (inl shares)
-            | inr never ↦ inr (inr (t ∙ L .seal-answer k (s .draw) (s .text), never))
-          ]
-        ];
+        true-sheet = record {
+          by = k;
+          by-is = u .its-key;
+          true-seal = t;
+          its-draw = leb-false (handed-out past) (s .draw) (none .1 .1 .1 .1 .1 .0);
+          short = ltb-false (S .longest) (length (s .text)) (none .1 .1 .1 .0);
+        };
+        known = known S L past k s t;
         standing-is = refl;
       }
 
   -- an untouched sheet meets no cause of refusal
   passes : (is-free (recorded past .state) ≡ false → g < 256) → Untouched S past s p → None-there causes
   passes low u =
-      let r = all-among _ (sheets past) s (P .right) (u .sealed-here) in
+      let r = all-among _ (sheets past) s (P .right) (u .sealed-here) .true-sheet in
       let state-is = open-now (r .by) (r .by-is) in
       let not-free = ap is-free state-is in
       let its-key = ap key-or-none (r .by-is) in (
@@ -110,7 +114,7 @@ module _ (S : Sealing) (L : SealingLaws S) (g : ℕ) {past : List Act} (P : Soun
               (
                 le-ltb p (S .chunks (s .text)) (u .room),
                 (
-                  lt-leb (handed-out past) (s .draw) (r .handed-out),
+                  lt-leb (handed-out past) (s .draw) (r .its-draw),
                   (not-from-true _ (eq-eqb _ _ (r .true-seal ∙ ap (λ k. S .seal k (s .draw) (s .text)) (sym its-key))), tt),
                 ),
               ),

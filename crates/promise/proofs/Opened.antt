@@ -33,7 +33,7 @@ module _ (S : Sealing) {h : History} {t : Table} (B : True-book S h t) (g : ℕ)
       (ap (λ (r : Record). r .key) (B .records i) ∙ ap key-or-none e)
 
   no-sheet : (s : Sheet) → Among s (sheets (acts g h)) → ⊥
-  no-sheet s i = none≢some no-key (all-among _ (sheets (acts g h)) s (B .sound g .right) i .by-is)
+  no-sheet s i = none≢some no-key (all-among _ (sheets (acts g h)) s (B .sound g .right) i .true-sheet .by-is)
 
   -- what is true of another grave's past, and not of g's, stays true
   others-stay : (P : ℕ → List Act → Type 0) → (P g (acts g h) → ⊥) → (i : ℕ) → P i (acts i h) →

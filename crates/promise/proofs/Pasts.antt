@@ -15,19 +15,15 @@ use Rattle.seal.specs.Sealing.{Sealing, Among}
 use Rattle.promise.specs.Draws.{without}
 use Rattle.promise.specs.History.{Sheet, Standing, Act, opened, drawn, sealed, voided, checked, cleared, closed}
 use Rattle.promise.specs.Past.{key, handed-out, sheets, held, voids}
-use Rattle.promise.specs.Promise.{Add-up, Draws-add-up, Fair, Checks-fair}
+use Rattle.promise.specs.Promise.{Add-up, Draws-add-up, True-sheet, Fair, Checks-fair}
 use Rattle.promise.proofs.Among.{all-among, all-from-among}
 use Rattle.promise.proofs.Draws.{among-without, all-without, distinct-without, not-among-without, length-without}
 
 module _ (S : Sealing) where
-  -- of a sheet that was sealed, at a grave with this key that has handed out so many draws and holds these
+  -- of a sheet that was sealed, at a grave that holds these draws
   pub record Right (k : Option Key) (handed : ℕ) (held : List ℕ) (s : Sheet) : Type 0 where
-    pub handed-out : s .draw < handed
+    pub true-sheet : True-sheet S k handed s
     pub not-held : Among (s .draw) held → ⊥
-    pub short : length (s .text) ≤ S .longest
-    pub by : Key
-    pub by-is : k ≡ Some by
-    pub true-seal : s .seal ≡ S .seal by (s .draw) (s .text)
 
   pub record Sound (past : List Act) : Type 0 where
     pub adds-up : Draws-add-up past
@@ -48,14 +44,13 @@ module _ (S : Sealing) where
     still-right : (n : ℕ) (ds : List ℕ) → handed-out past ≤ n →
         ((d : ℕ) → d < handed-out past → Among d ds → Among d (held past)) → All (Right (key past) n ds) (sheets past)
     still-right n ds more back =
-        all-weaker _ _ (λ s r. record {
-          handed-out = omega (arith, r .handed-out);
-          not-held = λ i. r .not-held (back (s .draw) (r .handed-out) i);
-          short = r .short;
-          by = r .by;
-          by-is = r .by-is;
-          true-seal = r .true-seal;
-        }) (sheets past) (P .right)
+        all-weaker _ _ (λ s r.
+          let t = r .true-sheet in record {
+            true-sheet = record {
+              by = t .by; by-is = t .by-is; true-seal = t .true-seal; its-draw = omega (arith, t .its-draw); short = t .short;
+            };
+            not-held = λ i. r .not-held (back (s .draw) (t .its-draw) i);
+          }) (sheets past) (P .right)
 
     -- a grave that was never opened has sealed nothing
     pub sound-opened : (k : Key) → key past ≡ None → Sound (opened k ∷ past)
@@ -67,7 +62,7 @@ module _ (S : Sealing) where
     }
       where
         no-key : {s : Sheet} → Right (key past) (handed-out past) (held past) s → ⊥
-        no-key r = let same = sym none ∙ r .by-is in let z : _≡_ {A = ℕ} 0 1 = cc in omega arith
+        no-key r = let same = sym none ∙ r .true-sheet .by-is in let z : _≡_ {A = ℕ} 0 1 = cc in omega arith
 
     pub sound-drawn : length (held past) < 4 → handed-out past < 1000000 → Sound (drawn (handed-out past) ∷ past)
     sound-drawn room more =
@@ -98,12 +93,14 @@ module _ (S : Sealing) where
           };
           right = (
             record {
-              handed-out = all-among _ (held past) (s .draw) (a .held-handed) i;
+              true-sheet = record {
+                by = k;
+                by-is = its-key;
+                true-seal = true-seal;
+                its-draw = all-among _ (held past) (s .draw) (a .held-handed) i;
+                short = short;
+              };
               not-held = not-among-without (s .draw) (held past) (a .held-once);
-              short = short;
-              by = k;
-              by-is = its-key;
-              true-seal = true-seal;
             },
             still-right (handed-out past) (without (s .draw) (held past)) (omega arith)
                 (λ d below. among-without (s .draw) d (held past)),

@@ -1,5 +1,6 @@
 -- The promise holds over every sealing with the laws, and so over that of any field and cipher. Assumes nothing.
 use mathlib.Core.List.{List, [], _∷_}
+use Rattle.std.proofs.shelf.Elements.{all-weaker}
 use Rattle.cipher.specs.declared.Block.{Block}
 use Rattle.cipher.specs.declared.Key.{Key}
 use Rattle.field.specs.Model.{Model}
@@ -11,7 +12,7 @@ use Rattle.seal.proofs.Apart.{sealing-laws}
 use Rattle.promise.specs.History.{History, event}
 use Rattle.promise.specs.Register.{Table, Reached, fresh, next-call}
 use Rattle.promise.specs.Promise.{Law, Promise}
-use Rattle.promise.proofs.Pasts.{Sound}
+use Rattle.promise.proofs.Pasts.{Right, Sound}
 use Rattle.promise.proofs.Runs.{True-book, true-new}
 use Rattle.promise.proofs.Calls.{true-call}
 
@@ -25,6 +26,7 @@ module _ (S : Sealing) (L : SealingLaws S) where
     law-holds = λ h t run.
         let B = true-book h t run in record {
           draws-add-up = λ g. B .sound g .adds-up;
+          sheets-true = λ g. all-weaker _ _ (λ s r. r .true-sheet) _ (B .sound g .right);
           one-sheet-a-draw = B .once;
           one-grave-a-key = B .keys-apart;
           checks-fair = λ g. B .sound g .fair;

@@ -1,6 +1,6 @@
 -- What the book promises of every run, whatever calls are made. Assumes nothing.
 use mathlib.Core.Path.{_≡_}
-use mathlib.Core.Logic.{_⊎_, _≢_}
+use mathlib.Core.Logic.{_≢_}
 use mathlib.Core.Bool.{Bool, true, false}
 use mathlib.Core.List.{List, [], _∷_}
 use Prim.Native.Nat.{ℕ, _+_, _<_, _≤_}
@@ -52,19 +52,27 @@ module _ (S : Sealing) where
   abbrev pub Never-asked : List Act → Key → Block → Type 0
   Never-asked past k b = (s : Sheet) → Among s (sheets past) → Among b (S .blocks k (s .draw) (s .text)) → ⊥
 
-  -- what a sheet is that passes, and its standing
+  -- at a grave with this key that has handed out so many draws, the sheet has the defined seal
+  pub record True-sheet (k : Option Key) (handed : ℕ) (s : Sheet) : Type 0 where
+    pub by : Key
+    pub by-is : k ≡ Some by
+    pub true-seal : s .seal ≡ S .seal by (s .draw) (s .text)
+    pub its-draw : s .draw < handed
+    pub short : length (s .text) ≤ S .longest
+
+  -- how a sheet can come by the defined seal: its text was sealed here under its draw; or another text was that shares
+  -- its hash; or the seal is the cipher's first number for a block that no seal made here ever asked for
+  pub data Known (past : List Act) (k : Key) (s : Sheet) : Type 0 where
+    was-sealed : Sealed-under past (s .draw) (λ x. x ≡ s .text) → Known past k s
+    shares-hash : Sealed-under past (s .draw) (λ x. (x ≢ s .text) × (S .hash k x ≡ S .hash k (s .text))) → Known past k s
+    never-asked : s .seal ≡ S .answer k (S .own-block k (s .draw) (s .text)) .first →
+        Never-asked past k (S .own-block k (s .draw) (s .text)) → Known past k s
+
+  -- what is known of a sheet that passes, and of its standing
   pub record Earned (past : List Act) (s : Sheet) (v : Standing) : Type 0 where
     pub open-then : Is-open past
-    pub by : Key
-    pub by-is : key past ≡ Some by
-    pub true-seal : s .seal ≡ S .seal by (s .draw) (s .text)
-    -- the text was sealed under the draw, or another that shares its hash was, or the seal is the cipher's first number
-    -- for a block that no seal made here ever asked for
-    pub known :
-        Sealed-under past (s .draw) (λ x. x ≡ s .text)
-        ⊎ (Sealed-under past (s .draw) (λ x. (x ≢ s .text) × (S .hash by x ≡ S .hash by (s .text)))
-        ⊎ ((s .seal ≡ S .answer by (S .own-block by (s .draw) (s .text)) .first)
-        × Never-asked past by (S .own-block by (s .draw) (s .text))))
+    pub true-sheet : True-sheet (key past) (handed-out past) s
+    pub known : Known past (true-sheet .by) s
     pub standing-is : v ≡ standing (newest (sheets past)) (s .draw)
 
   -- what passes was earned, and what is turned away was no untouched sheet
@@ -86,6 +94,7 @@ module _ (S : Sealing) where
   -- the law of what happened
   pub record Law (h : History) : Type 0 where
     pub draws-add-up : (g : ℕ) → Draws-add-up (acts g h)
+    pub sheets-true : (g : ℕ) → All (True-sheet (key (acts g h)) (handed-out (acts g h))) (sheets (acts g h))
     pub one-sheet-a-draw : Distinct (sealed-under h)
     pub one-grave-a-key : (g i : ℕ) (k : Key) → key (acts g h) ≡ Some k → key (acts i h) ≡ Some k → g ≡ i
     pub checks-fair : (g : ℕ) → Checks-fair (acts g h)

@@ -38,43 +38,38 @@ cases-text x y =
       | inr f ↦ inr (not-from-decides (sameBytes x y) (sameBytes-decides x y) f)
     ]
 
-module _ (S : Sealing) (L : SealingLaws S) (k : Key) (d : ℕ) (x : List ℕ) where
-  -- the sheet has the draw, and its text the hash
+module _ (S : Sealing) (L : SealingLaws S) (k : Key) (s : Sheet) where
+  -- r has the draw of s, and its text the hash
   abbrev Meets : Sheet → Type 0
-  Meets s = (s .draw ≡ d) × (S .hash k (s .text) ≡ S .hash k x)
+  Meets r = (r .draw ≡ s .draw) × (S .hash k (r .text) ≡ S .hash k (s .text))
 
-  cases-meets : (s : Sheet) → Meets s ⊎ (Meets s → ⊥)
-  cases-meets s =
-      elim (cases-eq (s .draw) d) [
-        | inl e ↦ elim (cases-eq (S .hash k (s .text)) (S .hash k x)) [
+  cases-meets : (r : Sheet) → Meets r ⊎ (Meets r → ⊥)
+  cases-meets r =
+      elim (cases-eq (r .draw) (s .draw)) [
+        | inl e ↦ elim (cases-eq (S .hash k (r .text)) (S .hash k (s .text))) [
           | inl h ↦ inl (e, h)
           | inr n ↦ inr (λ m. n (m .1))
         ]
         | inr n ↦ inr (λ m. n (m .0))
       ]
 
-  asked-meets : (s : Sheet) → Among (S .own-block k d x) (S .blocks k (s .draw) (s .text)) → Meets s
-  asked-meets s asked =
-      let alike = L .own-alike k d (s .draw) x (s .text) (L .own-apart k d (s .draw) x (s .text) asked) in
+  asked-meets : (r : Sheet) → Among (S .own-block k (s .draw) (s .text)) (S .blocks k (r .draw) (r .text)) → Meets r
+  asked-meets r asked =
+      let own = L .own-apart k (s .draw) (r .draw) (s .text) (r .text) asked in
+      let alike = L .own-alike k (s .draw) (r .draw) (s .text) (r .text) own in
       (sym (alike .0), sym (alike .1))
 
--- some sheet here has the draw and the hash, with this text or another, or nothing here asked for the own block
-known : (S : Sealing) → SealingLaws S → (past : List Act) (k : Key) (s : Sheet) →
-    s .seal ≡ S .seal k (s .draw) (s .text) → Known S past k s
-known S L past k s true-seal =
-    elim (some-or-none (Meets S L k d x) (cases-meets S L k d x) (sheets past)) [
-      | inl w ↦ elim (cases-text (w .0 .text) x) [
-        | inl same ↦ was-sealed (w .0, w .1, w .2 .0, same)
-        | inr other ↦ shares-hash (w .0, w .1, w .2 .0, (other, w .2 .1))
+  -- some sheet here has the draw and the hash, with this text or another, or nothing here asked for the own block
+  known : (past : List Act) → s .seal ≡ S .seal k (s .draw) (s .text) → Known S past k s
+  known past true-seal =
+      elim (some-or-none Meets cases-meets (sheets past)) [
+        | inl w ↦ elim (cases-text (w .0 .text) (s .text)) [
+          | inl same ↦ was-sealed (w .0, w .1, w .2 .0, same)
+          | inr other ↦ shares-hash (w .0, w .1, w .2 .0, (other, w .2 .1))
+        ]
+        | inr none ↦ never-asked (true-seal ∙ L .seal-answer k (s .draw) (s .text))
+            (λ r i asked. none r i (asked-meets r asked))
       ]
-      | inr none ↦ never-asked (true-seal ∙ L .seal-answer k d x) (λ r i asked. none r i (asked-meets S L k d x r asked))
-    ]
-  where
-    d : ℕ
-    d = s .draw
-
-    x : List ℕ
-    x = s .text
 
 module _ (S : Sealing) (L : SealingLaws S) (g : ℕ) {past : List Act} (P : Sound S past) (s : Sheet) (p : ℕ) where
   abbrev causes : List Cause
@@ -93,7 +88,7 @@ module _ (S : Sealing) (L : SealingLaws S) (g : ℕ) {past : List Act} (P : Soun
           its-draw = leb-false (handed-out past) (s .draw) (none .1 .1 .1 .1 .1 .0);
           short = ltb-false (S .longest) (length (s .text)) (none .1 .1 .1 .0);
         };
-        known = known S L past k s t;
+        known = known S L k s past t;
         standing-is = refl;
       }
 

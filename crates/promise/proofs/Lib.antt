@@ -16,3 +16,4 @@ pub mod Theorem
 pub mod Continues
 -- what the law refutes
 mod Teeth
+mod Examples

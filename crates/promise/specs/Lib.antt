@@ -5,3 +5,4 @@ pub mod Register
 pub mod Runs
 pub mod Promise
 pub mod Teeth
+pub mod Examples

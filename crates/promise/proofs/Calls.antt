@@ -13,27 +13,20 @@ use Rattle.std.proofs.shelf.Tests.{cond-false, eqb-true, ltb-false, leb-false, 
 use Rattle.cipher.specs.declared.Key.{Key}
 use Rattle.refusal.specs.Outcomes.{Outcome, gives, refuses, Cause, decided}
 use Rattle.seal.specs.Sealing.{Sealing, SealingLaws, Among}
-use Rattle.promise.specs.History.{
-  Sheet, Call, to-open, to-draw, to-seal, to-void, to-check, to-clear, to-close,
-  Standing, Act, opened, drawn, sealed, voided, checked, cleared, closed,
-  Event, on, turned-away, event, History, acts,
-}
+use Rattle.promise.specs.History.{Sheet, Call, to-open, to-draw, to-seal, to-void, to-check, to-clear, to-close}
+use Rattle.promise.specs.History.{Standing, Act, opened, drawn, sealed, voided, checked, cleared, closed, Event, on}
+use Rattle.promise.specs.History.{turned-away, event, History, acts}
 use Rattle.promise.specs.Past.{key, in-use, false-seals, with-false-seal, handed-out, sheets, newest, held}
-use Rattle.promise.specs.Register.{
-  State, Record, Table, grave, is-free, free-or-closed, is-locked, is-used,
-  open-causes, draw-causes, seal-causes, void-causes, check-causes, use-causes,
-  after-open, after-draw, after-seal, after-void, with-state, after-clear, after-close, after-false-seal,
-  standing, answer, written, after-check, table, Reached, fresh, next-call,
-}
+use Rattle.promise.specs.Records.{State, Record, Table, grave, is-free, free-or-closed, is-locked, is-used}
+use Rattle.promise.specs.Records.{after-open, after-draw, after-seal, after-void, with-state, after-clear}
+use Rattle.promise.specs.Records.{after-close, after-false-seal}
+use Rattle.promise.specs.Register.{open-causes, draw-causes, seal-causes, void-causes, check-causes, use-causes}
+use Rattle.promise.specs.Register.{standing, answer, written, after-check, table, Reached, fresh, next-call}
 use Rattle.promise.specs.Promise.{Fair, state-of, key-or-none, recorded}
 use Rattle.promise.proofs.Draws.{among-from-holds}
 use Rattle.promise.proofs.Causes.{None-there, None-before, none-before-refusal}
-use Rattle.promise.proofs.States.{
-  Used, used, used-not-free, one-false-seal-more, cleared-state, closed-state,
-}
-use Rattle.promise.proofs.Pasts.{
-  Sound, sound-drawn, sound-voided, sound-checked, sound-cleared, sound-closed,
-}
+use Rattle.promise.proofs.States.{Used, used, used-not-free, one-false-seal-more, cleared-state, closed-state}
+use Rattle.promise.proofs.Pasts.{Sound, sound-drawn, sound-voided, sound-checked, sound-cleared, sound-closed}
 use Rattle.promise.proofs.Checks.{fair}
 use Rattle.promise.proofs.Runs.{Quiet, True-book, true-new, true-refused, one-of-the-book, true-act, true-left}
 use Rattle.promise.proofs.Opened.{true-open}
@@ -177,7 +170,7 @@ module _ (S : Sealing) (L : SealingLaws S) {h : History} {t : Table} (B : True-b
     checks : True-book S (on g (checked s p (answer S t (to-check g s p))) ∷ h)
         (after-check t g (answer S t (to-check g s p)))
     checks =
-        at-record (λ r. let o = decided (check-causes S g r s p) (gives (standing (r .newest) (s .draw))) in
+        at-record (λ r. let o = decided (check-causes S g r s p) (gives (standing (r .current) (s .draw))) in
         True-book S (on g (checked s p o) ∷ h) (after-check t g o))
         (checks-at (decided causes given) refl)
 

@@ -12,20 +12,17 @@ use Rattle.std.specs.declared.option.Option.{Option}
 use Rattle.std.specs.declared.option.Option.the-variants.{Some, None}
 use Rattle.std.proofs.shelf.Equals.{sameBytes-decides}
 use Rattle.std.proofs.shelf.Ways.{not-from-decides}
-use Rattle.std.proofs.shelf.Tests.{
-  ltb-false, leb-false, le-ltb, lt-leb, eq-eqb, eqb-true, not-false, not-from-true, cases-eq, cases-bool,
-}
+use Rattle.std.proofs.shelf.Tests.{ltb-false, leb-false, le-ltb, lt-leb, eq-eqb, eqb-true, not-false, not-from-true}
+use Rattle.std.proofs.shelf.Tests.{cases-eq, cases-bool}
 use Rattle.cipher.specs.declared.Key.{Key}
 use Rattle.refusal.specs.Outcomes.{Outcome, gives, refuses, Cause, decided}
 use Rattle.seal.specs.Sealing.{Sealing, SealingLaws, Among}
 use Rattle.promise.specs.History.{Sheet, Standing, Act}
 use Rattle.promise.specs.Past.{key, in-use, false-seals, handed-out, sheets, newest, held}
-use Rattle.promise.specs.Register.{
-  State, Open, is-free, free-or-closed, is-locked, check-causes, standing,
-}
-use Rattle.promise.specs.Promise.{
-  Untouched, Known, was-sealed, shares-hash, never-asked, Earned, Fair, state-of, key-or-none, recorded,
-}
+use Rattle.promise.specs.Records.{State, Open, is-free, free-or-closed, is-locked}
+use Rattle.promise.specs.Register.{check-causes, standing}
+use Rattle.promise.specs.Promise.{Untouched, Known, was-sealed, shares-hash, never-asked, Earned, Fair, state-of}
+use Rattle.promise.specs.Promise.{key-or-none, recorded}
 use Rattle.promise.proofs.Among.{all-among, some-or-none}
 use Rattle.promise.proofs.Causes.{None-there, refuses≢gives, given-where-none, none-where-given}
 use Rattle.promise.proofs.States.{Used, used, below-four, open-state, keyed-not-free}

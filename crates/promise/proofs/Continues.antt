@@ -4,7 +4,8 @@ use mathlib.Core.List.{List, _∷_}
 use Rattle.refusal.specs.Outcomes.{Outcome}
 use Rattle.seal.specs.Sealing.{Sealing}
 use Rattle.promise.specs.History.{Call, Given, event, History}
-use Rattle.promise.specs.Register.{Table, answer, table, Reached, next-call}
+use Rattle.promise.specs.Records.{Table}
+use Rattle.promise.specs.Register.{answer, table, Reached, next-call}
 
 pub continues : (S : Sealing) (t t′ : Table) (c : Call) (o : Outcome (Given c)) →
     o ≡ answer S t c → t′ ≡ table S t c → (h : History) → Reached S h t → Reached S (event c o ∷ h) t′

@@ -5,7 +5,7 @@ use mathlib.Core.List.{List, [], _∷_}
 use Prim.Native.Nat.{ℕ, zero, suc}
 use Rattle.std.proofs.shelf.Tests.{eq-eqb, or-parts, and-from, both-ways, true≢false, not-from-false}
 use Rattle.cipher.specs.declared.Key.{Key}
-use Rattle.promise.specs.Register.{Record, Table, grave, is-free, same-key, is-used}
+use Rattle.promise.specs.Records.{Record, Table, grave, is-free, same-key, is-used}
 
 same-key-true : (j k : Key) → j ≡ k → same-key j k ≡ true
 same-key-true j k e =

@@ -11,7 +11,7 @@ use Rattle.cipher.specs.declared.Key.{Key}
 use Rattle.seal.specs.Sealing.{Sealing, Among}
 use Rattle.promise.specs.History.{Sheet, Act, opened, on, History, acts}
 use Rattle.promise.specs.Past.{key, in-use, false-seals, handed-out, sheets, held}
-use Rattle.promise.specs.Register.{Record, Table, grave, is-free, is-used}
+use Rattle.promise.specs.Records.{Record, Table, grave, is-free, is-used}
 use Rattle.promise.specs.Promise.{key-or-none, state-of, recorded}
 use Rattle.promise.proofs.Among.{all-among}
 use Rattle.promise.proofs.States.{keyed-not-free, free-has-no-key}
@@ -68,7 +68,7 @@ module _ (S : Sealing) {h : History} {t : Table} (B : True-book S h t) (g : ℕ)
     source = λ under i.
         let w = B .source under i in
         let kept = others-stay (λ i past. (key past ≡ under .0) × Among (w .sheet) (sheets past))
-            (λ both. no-sheet (w .sheet) (both .1)) (w .at) (w .its-key, w .sealed-there) in
+        (λ both. no-sheet (w .sheet) (both .1)) (w .at) (w .its-key, w .sealed-there) in
         record { at = w .at; its-key = kept .0; sheet = w .sheet; sealed-there = kept .1; its-draw = w .its-draw };
     once = B .once;
   }

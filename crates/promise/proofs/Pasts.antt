@@ -33,7 +33,11 @@ module _ (S : Sealing) where
   pub sound-none : Sound []
   sound-none = record {
     adds-up = record {
-      sum = refl; held-once = tt; held-handed = tt; held-few = omega arith; handed-few = omega arith;
+      sum = refl;
+      held-once = tt;
+      held-handed = tt;
+      held-few = omega arith;
+      handed-few = omega arith;
     };
     right = tt;
     fair = tt;
@@ -45,12 +49,16 @@ module _ (S : Sealing) where
         ((d : ℕ) → d < handed-out past → Among d ds → Among d (held past)) → All (Right (key past) n ds) (sheets past)
     still-right n ds more back =
         all-weaker _ _ (λ s r.
-          let t = r .true-sheet in record {
-            true-sheet = record {
-              by = t .by; by-is = t .by-is; true-seal = t .true-seal; its-draw = omega (arith, t .its-draw); short = t .short;
-            };
-            not-held = λ i. r .not-held (back (s .draw) (t .its-draw) i);
-          }) (sheets past) (P .right)
+        let t = r .true-sheet in record {
+          true-sheet = record {
+            by = t .by;
+            by-is = t .by-is;
+            true-seal = t .true-seal;
+            its-draw = omega (arith, t .its-draw);
+            short = t .short;
+          };
+          not-held = λ i. r .not-held (back (s .draw) (t .its-draw) i);
+        }) (sheets past) (P .right)
 
     -- a grave that was never opened has sealed nothing
     pub sound-opened : (k : Key) → key past ≡ None → Sound (opened k ∷ past)
@@ -134,7 +142,11 @@ module _ (S : Sealing) where
     sound-closed =
         let a = P .adds-up in record {
           adds-up = record {
-            sum = omega (arith, a .sum); held-once = tt; held-handed = tt; held-few = omega arith; handed-few = a .handed-few;
+            sum = omega (arith, a .sum);
+            held-once = tt;
+            held-handed = tt;
+            held-few = omega arith;
+            handed-few = a .handed-few;
           };
           right = still-right (handed-out past) [] (omega arith) (λ d below i. absurd i);
           fair = P .fair;

@@ -16,7 +16,7 @@ use Rattle.bound.specs.Counting.{Distinct}
 use Rattle.seal.specs.Sealing.{Sealing, Among}
 use Rattle.promise.specs.History.{Sheet, Act, on, turned-away, History, acts}
 use Rattle.promise.specs.Past.{key, sheets, sealed-under}
-use Rattle.promise.specs.Register.{Record, Table, free, new, grave, is-free}
+use Rattle.promise.specs.Records.{Record, Table, free, new, grave, is-free}
 use Rattle.promise.specs.Promise.{recorded}
 use Rattle.promise.proofs.Pasts.{Sound, sound-none}
 
@@ -78,7 +78,11 @@ module _ (S : Sealing) where
       sound = B .sound;
       keys-apart = B .keys-apart;
       source = λ under i. let w = B .source under i in record {
-        at = w .at; its-key = w .its-key; sheet = w .sheet; sealed-there = w .sealed-there; its-draw = w .its-draw;
+        at = w .at;
+        its-key = w .its-key;
+        sheet = w .sheet;
+        sealed-there = w .sealed-there;
+        its-draw = w .its-draw;
       };
       once = B .once;
     }

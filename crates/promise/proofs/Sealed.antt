@@ -12,13 +12,12 @@ use Rattle.cipher.specs.declared.Key.{Key}
 use Rattle.seal.specs.Sealing.{Sealing, Among}
 use Rattle.promise.specs.History.{Sheet, Act, sealed, on, History, acts}
 use Rattle.promise.specs.Past.{key, handed-out, sheets, held, sealed-under}
-use Rattle.promise.specs.Register.{Record, Table, grave}
+use Rattle.promise.specs.Records.{Record, Table, grave}
 use Rattle.promise.specs.Promise.{recorded}
 use Rattle.promise.proofs.Among.{all-among, all-from-among}
 use Rattle.promise.proofs.Pasts.{Right, sound-sealed}
-use Rattle.promise.proofs.Runs.{
-  at-each, Source, True-book, records-after, sound-after, keys-after, keys-apart-after, source-after,
-}
+use Rattle.promise.proofs.Runs.{at-each, Source, True-book, records-after, sound-after, keys-after, keys-apart-after}
+use Rattle.promise.proofs.Runs.{source-after}
 
 module _ (S : Sealing) {h : History} {t : Table} (B : True-book S h t) (g : ℕ) (s : Sheet) (k : Key)
     (its-key : key (acts g h) ≡ Some k) (i : Among (s .draw) (held (acts g h))) where
@@ -27,7 +26,7 @@ module _ (S : Sealing) {h : History} {t : Table} (B : True-book S h t) (g : ℕ)
   new-under under j e =
       let w = B .source under j in
       let same-grave : w .at ≡ g = B .keys-apart (w .at) g k
-          (w .its-key ∙ (sym (ap (λ (u : Option Key × ℕ). u .0) e) ∙ its-key)) its-key in
+      (w .its-key ∙ (sym (ap (λ (u : Option Key × ℕ). u .0) e) ∙ its-key)) its-key in
       let there = subst (λ n. Among (w .sheet) (sheets (acts n h))) same-grave (w .sealed-there) in
       let same-draw : s .draw ≡ w .sheet .draw = ap (λ (u : Option Key × ℕ). u .1) e ∙ sym (w .its-draw) in
       all-among _ (sheets (acts g h)) (w .sheet) (B .sound g .right) there .not-held

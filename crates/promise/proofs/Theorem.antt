@@ -10,7 +10,8 @@ use Rattle.seal.specs.Sealing.{Sealing, SealingLaws}
 use Rattle.seal.specs.Seals.{sealing}
 use Rattle.seal.proofs.Apart.{sealing-laws}
 use Rattle.promise.specs.History.{History, event}
-use Rattle.promise.specs.Register.{Table, Reached, fresh, next-call}
+use Rattle.promise.specs.Records.{Table}
+use Rattle.promise.specs.Register.{Reached, fresh, next-call}
 use Rattle.promise.specs.Promise.{Law, Promise}
 use Rattle.promise.proofs.Pasts.{Right, Sound}
 use Rattle.promise.proofs.Runs.{True-book, true-new}

@@ -1,6 +1,7 @@
 pub mod Draws
 pub mod History
 pub mod Past
+pub mod Records
 pub mod Register
 pub mod Runs
 pub mod Promise

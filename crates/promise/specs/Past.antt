@@ -10,10 +10,8 @@ use Rattle.std.specs.declared.option.Option.the-variants.{Some, None}
 use Rattle.cipher.specs.declared.Key.{Key}
 use Rattle.refusal.specs.Outcomes.{Outcome, gives, refuses}
 use Rattle.promise.specs.Draws.{without}
-use Rattle.promise.specs.History.{
-  Sheet, Standing, Act, opened, drawn, sealed, voided, checked, cleared, closed,
-  on, turned-away, History, acts,
-}
+use Rattle.promise.specs.History.{Sheet, Standing, Act, opened, drawn, sealed, voided, checked, cleared, closed, on}
+use Rattle.promise.specs.History.{turned-away, History, acts}
 
 -- the key that the grave was opened with
 abbrev pub key : List Act → Option Key

@@ -15,15 +15,12 @@ use Rattle.field.specs.Model.{Model}
 use Rattle.bound.specs.Counting.{Distinct}
 use Rattle.bound.specs.Bound.{Only-zero-makes-zero, Collision-bound}
 use Rattle.seal.specs.Sealing.{Sealing, Among}
-use Rattle.promise.specs.History.{
-  Sheet, Standing, Act, opened, drawn, sealed, voided, checked, cleared, closed, History, acts,
-}
-use Rattle.promise.specs.Past.{
-  key, in-use, false-seals, Is-open, handed-out, sheets, newest, held, voids, sealed-under,
-}
-use Rattle.promise.specs.Register.{
-  State, Free, Open, Locked, Closed, Record, no-key, in-use-with, Table, grave, standing, Reached,
-}
+use Rattle.promise.specs.History.{Sheet, Standing, Act, opened, drawn, sealed, voided, checked, cleared, closed}
+use Rattle.promise.specs.History.{History, acts}
+use Rattle.promise.specs.Past.{key, in-use, false-seals, Is-open, handed-out, sheets, newest, held, voids}
+use Rattle.promise.specs.Past.{sealed-under}
+use Rattle.promise.specs.Records.{State, Free, Open, Locked, Closed, Record, no-key, in-use-with, Table, grave}
+use Rattle.promise.specs.Register.{standing, Reached}
 
 -- A grave's draws: how many were handed out, sealed and voided, and which are held.
 pub record Add-up (handed sealed voided : ℕ) (held : List ℕ) : Type 0 where
@@ -118,7 +115,7 @@ recorded past = record {
   held = held past;
   sealed = length (sheets past);
   voided = voids past;
-  newest = newest (sheets past);
+  current = newest (sheets past);
 }
 
 -- Over a field and a sealing, whatever calls are made on a new book: the law holds of all that happened, and each record

@@ -1,79 +1,20 @@
--- The rules of the book's calls: of each, why it is refused, what it answers and the table afterwards. Assumes nothing.
-use mathlib.Core.Bool.{Bool, true, false, cond, not, _&&_, _||_}
+-- The rules of the calls: why each is refused, what it answers, the table afterwards, and runs. Assumes nothing.
+use mathlib.Core.Bool.{cond, not}
 use mathlib.Core.List.{List, [], _∷_}
-use Prim.Native.Nat.{ℕ, _+_}
+use Prim.Native.Nat.{ℕ}
 use lib.Dec.{eqb, leb, ltb}
-use lib.ListN.{length, getD, set, replicate}
+use lib.ListN.{length, set}
 use Rattle.std.specs.declared.option.Option.{Option}
 use Rattle.std.specs.declared.option.Option.the-variants.{Some, None}
 use Rattle.cipher.specs.declared.Key.{Key}
 use Rattle.refusal.specs.Outcomes.{Outcome, gives, refuses, Cause, _when_, decided}
 use Rattle.seal.specs.Sealing.{Sealing}
-use Rattle.promise.specs.Draws.{holds, without}
-use Rattle.promise.specs.History.{
-  Sheet, Call, to-open, to-draw, to-seal, to-void, to-check, to-clear, to-close,
-  Given, Standing, current, superseded, event, History,
-}
-
-pub data State : Type 0 where
-  Free : State
-  Open : (false-seals : ℕ) → State
-  Locked : State
-  Closed : State
-
-pub record Record : Type 0 where
-  pub state : State
-  pub key : Key
-  -- the number of the next draw, and the draws that are held, newest first
-  pub next : ℕ
-  pub held : List ℕ
-  -- how many sheets were sealed and draws voided, and the draw of the newest sheet
-  pub sealed : ℕ
-  pub voided : ℕ
-  pub newest : Option ℕ
-
-abbrev pub no-key : Key
-no-key = record { first = 0; second = 0 }
-
-abbrev pub free : Record
-free = record { state = Free; key = no-key; next = 0; held = []; sealed = 0; voided = 0; newest = None }
-
-abbrev pub Table : Type 0
-Table = List Record
-
-abbrev pub new : Table
-new = replicate 256 free
-
-abbrev pub grave : Table → ℕ → Record
-grave t g = getD t g free
-
--- What the tests ask.
-
-abbrev pub is-free : State → Bool
-is-free Free = true
-is-free (Open n) = false
-is-free Locked = false
-is-free Closed = false
-
-abbrev pub free-or-closed : State → Bool
-free-or-closed Free = true
-free-or-closed (Open n) = false
-free-or-closed Locked = false
-free-or-closed Closed = true
-
-abbrev pub is-locked : State → Bool
-is-locked Free = false
-is-locked (Open n) = false
-is-locked Locked = true
-is-locked Closed = false
-
-abbrev pub same-key : Key → Key → Bool
-same-key j k = eqb (j .first) (k .first) && eqb (j .second) (k .second)
-
--- some grave that is not free has the key
-abbrev pub is-used : Table → Key → Bool
-is-used [] k = false
-is-used (r ∷ rs) k = (not (is-free (r .state)) && same-key (r .key) k) || is-used rs k
+use Rattle.promise.specs.Draws.{holds}
+use Rattle.promise.specs.History.{Sheet, Call, to-open, to-draw, to-seal, to-void, to-check, to-clear, to-close}
+use Rattle.promise.specs.History.{Given, Standing, current, superseded, event, History}
+use Rattle.promise.specs.Records.{Record, Table, new, grave, is-free, free-or-closed, is-locked, is-used}
+use Rattle.promise.specs.Records.{after-open, after-draw, after-seal, after-void, after-clear, after-close}
+use Rattle.promise.specs.Records.{after-false-seal}
 
 -- Why each call is refused, in the order of the tests.
 
@@ -115,63 +56,9 @@ check-causes S g r s p =
 abbrev pub use-causes : ℕ → Record → List Cause
 use-causes g r = 1 when ltb 255 g ∷ 4 when free-or-closed (r .state) ∷ []
 
--- The grave's record after a call that is not refused, and after a false seal.
-
-abbrev pub after-open : Key → Record → Record
-after-open k r = record {
-  state = Open 0; key = k; next = r .next; held = r .held;
-  sealed = r .sealed; voided = r .voided; newest = r .newest;
-}
-
-abbrev pub after-draw : Record → Record
-after-draw r = record {
-  state = r .state; key = r .key; next = r .next + 1; held = r .next ∷ r .held;
-  sealed = r .sealed; voided = r .voided; newest = r .newest;
-}
-
-abbrev pub after-seal : ℕ → Record → Record
-after-seal d r = record {
-  state = r .state; key = r .key; next = r .next; held = without d (r .held);
-  sealed = r .sealed + 1; voided = r .voided; newest = Some d;
-}
-
-abbrev pub after-void : ℕ → Record → Record
-after-void d r = record {
-  state = r .state; key = r .key; next = r .next; held = without d (r .held);
-  sealed = r .sealed; voided = r .voided + 1; newest = r .newest;
-}
-
-abbrev pub with-state : State → Record → Record
-with-state s r = record {
-  state = s; key = r .key; next = r .next; held = r .held;
-  sealed = r .sealed; voided = r .voided; newest = r .newest;
-}
-
-abbrev pub after-clear : Record → Record
-after-clear r = with-state (Open 0) r
-
--- the state with n false seals: the fourth locks
-abbrev pub in-use-with : ℕ → State
-in-use-with n = cond (ltb n 4) (Open n) Locked
-
-abbrev pub one-more : State → State
-one-more Free = Free
-one-more (Open n) = in-use-with (n + 1)
-one-more Locked = Locked
-one-more Closed = Closed
-
-abbrev pub after-false-seal : Record → Record
-after-false-seal r = with-state (one-more (r .state)) r
-
-abbrev pub after-close : Record → Record
-after-close r = record {
-  state = Closed; key = r .key; next = r .next; held = [];
-  sealed = r .sealed; voided = r .voided + length (r .held); newest = r .newest;
-}
-
 -- What each call answers.
 
--- of a sheet under draw d, where the newest is this
+-- of a sheet under draw d, where this is the current draw
 abbrev pub standing : Option ℕ → ℕ → Standing
 standing None d = superseded
 standing (Some e) d = cond (eqb e d) current superseded
@@ -182,7 +69,7 @@ answer S t (to-draw g) = decided (draw-causes g (grave t g)) (gives (grave t g .
 answer S t (to-seal g d x p) = decided (seal-causes S (grave t g) d x p) (gives (S .seal (grave t g .key) d x))
 answer S t (to-void g d) = decided (void-causes (grave t g) d) (gives tt)
 answer S t (to-check g s p) =
-    decided (check-causes S g (grave t g) s p) (gives (standing (grave t g .newest) (s .draw)))
+    decided (check-causes S g (grave t g) s p) (gives (standing (grave t g .current) (s .draw)))
 answer S t (to-clear g) = decided (use-causes g (grave t g)) (gives tt)
 answer S t (to-close g) = decided (use-causes g (grave t g)) (gives tt)
 

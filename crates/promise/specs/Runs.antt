@@ -2,7 +2,8 @@
 use mathlib.Core.List.{List, [], _∷_}
 use Rattle.seal.specs.Sealing.{Sealing}
 use Rattle.promise.specs.History.{Call, event, History}
-use Rattle.promise.specs.Register.{Table, new, answer, table}
+use Rattle.promise.specs.Records.{Table, new}
+use Rattle.promise.specs.Register.{answer, table}
 
 abbrev pub left-by : Sealing → List Call → Table
 left-by S [] = new

@@ -1,7 +1,7 @@
 use mathlib.Core.Path.{refl}
 use lib.Dec.{ltb}
 use Rattle.std.proofs.shelf.Tests.{cond-true, lt-ltb}
-use Rattle.promise.specs.Register.{Open, Locked}
+use Rattle.promise.specs.Records.{Open, Locked}
 use Rattle.promise.proofs.Teeth.{teeth}
 use Rattle.promise.proofs.Examples.{examples}
 use Rattle.promise.proofs.false_seals_to_lock.Needs as need

@@ -1,2 +1,3 @@
 pub mod Subkeys
 mod Sealed
+pub mod Apart

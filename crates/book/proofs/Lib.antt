@@ -1,1 +1,3 @@
 mod Removed
+mod Placed
+mod Finished

@@ -15,7 +15,8 @@ use Rattle.refusal.specs.Outcomes.{Outcome, gives, refuses, _when_, decided}
 use Rattle.seal.specs.Sealing.{Sealing}
 use Rattle.promise.specs.History.{Call, Given, Sheet, event, History}
 use Rattle.promise.specs.History as heard
-use Rattle.promise.specs.Register as rule
+use Rattle.promise.specs.Records.{Table, Record, State, grave}
+use Rattle.promise.specs.Register.{answer, table, Reached}
 use Rattle.book.specs.declared.calls.Draw.{Draw}
 use Rattle.book.specs.declared.calls.Returned.{Returned}
 use Rattle.book.specs.declared.calls.Account.{Account}
@@ -24,13 +25,13 @@ use Rattle.book.specs.States.{state}
 use Rattle.book.specs.Entries.{standing-of}
 
 -- From a sealing and a table, the call c was answered by o, and left a sealing and a table.
-pub record Done (S : Sealing) (t : rule.Table) (c : Call) (o : Outcome (Given c)) (S′ : Sealing) (t′ : rule.Table) : Type 0 where
+pub record Done (S : Sealing) (t : Table) (c : Call) (o : Outcome (Given c)) (S′ : Sealing) (t′ : Table) : Type 0 where
   -- by the rules
-  pub answers : o ≡ rule.answer S t c
-  pub writes : t′ ≡ rule.table S t c
+  pub answers : o ≡ answer S t c
+  pub writes : t′ ≡ table S t c
   pub keeps : S′ ≡ S
   -- so that every run that led to the book as it was goes on to the book as it is
-  pub goes-on : (h : History) → rule.Reached S h t → rule.Reached S′ (event c o ∷ h) t′
+  pub goes-on : (h : History) → Reached S h t → Reached S′ (event c o ∷ h) t′
 
 -- the outcomes that the code's answers stand for
 
@@ -55,15 +56,15 @@ sheet draw text seal = record { draw = draw; text = text; seal = seal }
 
 -- what the book tells of a grave
 pub record Told : Type 0 where
-  pub state : rule.State
+  pub state : State
   pub sealed : ℕ
   pub voided : ℕ
   pub held : ℕ
   pub current : Option ℕ
 
-abbrev pub told-of : rule.Record → Told
+abbrev pub told-of : Record → Told
 told-of r = record {
-  state = r .state; sealed = r .sealed; voided = r .voided; held = length (r .held); current = r .newest;
+  state = r .state; sealed = r .sealed; voided = r .voided; held = length (r .held); current = r .current;
 }
 
 abbrev pub account : Account → Told
@@ -75,10 +76,10 @@ abbrev pub account-told : Result Account Refusal → Outcome Told
 account-told (Ok a) = gives (account a)
 account-told (Err w) = refuses (number-of w)
 
-abbrev pub tell-outcome : rule.Table → ℕ → Outcome Told
-tell-outcome t g = decided (1 when ltb 255 g ∷ []) (gives (told-of (rule.grave t g)))
+abbrev pub tell-outcome : Table → ℕ → Outcome Told
+tell-outcome t g = decided (1 when ltb 255 g ∷ []) (gives (told-of (grave t g)))
 
 -- a grave with held draws, or none where no grave has any
-abbrev pub Owing : rule.Table → Option ℕ → Type 0
-Owing t (Some g) = (g < 256) × (0 < length (rule.grave t g .held))
-Owing t None = (g : ℕ) → rule.grave t g .held ≡ []
+abbrev pub Owing : Table → Option ℕ → Type 0
+Owing t (Some g) = (g < 256) × (0 < length (grave t g .held))
+Owing t None = (g : ℕ) → grave t g .held ≡ []

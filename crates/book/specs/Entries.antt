@@ -6,7 +6,7 @@ use Rattle.std.specs.declared.result.Result.the-variants.{Ok, Err}
 use Rattle.refusal.specs.declared.Refusal.{Refusal}
 use Rattle.refusal.specs.Numbers.{number-of}
 use Rattle.refusal.specs.Outcomes.{Outcome, gives, refuses}
-use Rattle.promise.specs.Register as rule
+use Rattle.promise.specs.Records as rule
 use Rattle.promise.specs.History as heard
 use Rattle.book.specs.declared.entry.Entry.{Entry}
 use Rattle.book.specs.declared.record.Record.{Record}
@@ -23,7 +23,7 @@ entry e = record {
   held = draws (e .held);
   sealed = e .sealed;
   voided = e .voided;
-  newest = e .current;
+  current = e .current;
 }
 
 abbrev pub the-record : Record → rule.Record

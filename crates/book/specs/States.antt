@@ -7,7 +7,7 @@ use Rattle.std.specs.declared.result.Result.the-variants.{Ok, Err}
 use Rattle.refusal.specs.declared.Refusal.{Refusal}
 use Rattle.refusal.specs.Numbers.{number-of}
 use Rattle.refusal.specs.Outcomes.{Outcome, gives, refuses, Cause, _when_, decided}
-use Rattle.promise.specs.Register as rule
+use Rattle.promise.specs.Records as rule
 use Rattle.book.specs.declared.entry.State.{State}
 use Rattle.book.specs.declared.entry.State.the-variants as is
 use Rattle.book.specs.declared.entry.Event.{Event}

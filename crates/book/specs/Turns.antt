@@ -2,7 +2,7 @@
 use mathlib.Core.Bool.{not}
 use mathlib.Core.List.{List, [], _∷_}
 use Rattle.refusal.specs.Outcomes.{Cause, _when_}
-use Rattle.promise.specs.Register.{Record, is-free, free-or-closed, is-locked}
+use Rattle.promise.specs.Records.{Record, is-free, free-or-closed, is-locked}
 
 abbrev pub open-here : Record → List Cause
 open-here r = 2 when not (is-free (r .state)) ∷ []

@@ -6,7 +6,8 @@ ghost use lib.ListN.{length, replicate};
 ghost use Rattle.std.specs.Vec.{made, refused};
 ghost use Rattle.seal.specs.Seals.{sealing};
 ghost use Rattle.promise.specs.History.{to-open, to-draw, to-seal, to-void, to-check, to-clear, to-close};
-ghost use Rattle.promise.specs.Register.{new, is-used, Reached};
+ghost use Rattle.promise.specs.Records.{new, is-used};
+ghost use Rattle.promise.specs.Register.{Reached};
 ghost use Rattle.promise.specs.Promise.{Promise};
 ghost use Rattle.book.specs.Entries.{records};
 ghost use Rattle.book.specs.Calls.{Done, drawn-told, sealed-told, checked-told, plain-told, account-told, tell-outcome, Owing, sheet};
@@ -104,6 +105,7 @@ impl<F: Field, C: Cipher> Book<F, C> {
         ensures kept { λ r. ⌜ (r .field ≡ field) × (r .cipher ≡ cipher) ⌝ }
         ensures table { λ r. ⌜ records (r .graves .table) ≡ new ⌝ }
         ensures starts { λ r. ⌜ Reached (sealing (F·Field .model) (C·Cipher .function (r .cipher))) [] (records (r .graves .table)) ⌝ }
+        ensures promise { λ r. ⌜ Promise (F·Field .model) (sealing (F·Field .model) (C·Cipher .function (r .cipher))) ⌝ }
     {
         Book {
             field,
@@ -123,12 +125,16 @@ impl<F: Field, C: Cipher> Book<F, C> {
         }
         let record = &mut self.graves.table[grave as usize];
         let number = record.entry.next;
-        let after = turns::drawn(*record)?;
-        *record = after;
-        Ok(Draw {
-            grave: grave as u8,
-            number,
-        })
+        match turns::drawn(*record) {
+            Err(refusal) => Err(refusal),
+            Ok(after) => {
+                *record = after;
+                Ok(Draw {
+                    grave: grave as u8,
+                    number,
+                })
+            }
+        }
     }
 
     // Takes the draw in every case, and says why where it was not voided.
@@ -140,9 +146,13 @@ impl<F: Field, C: Cipher> Book<F, C> {
         let number = draw.number;
         draw.spend();
         let record = &mut self.graves.table[grave as usize];
-        let after = turns::voided(*record, number)?;
-        *record = after;
-        Ok(())
+        match turns::voided(*record, number) {
+            Err(refusal) => Err(refusal),
+            Ok(after) => {
+                *record = after;
+                Ok(())
+            }
+        }
     }
 
     // False seals become none, and a locked grave is open.
@@ -154,9 +164,13 @@ impl<F: Field, C: Cipher> Book<F, C> {
             return Err(Refusal::GraveOutOfRange);
         }
         let record = &mut self.graves.table[grave as usize];
-        let after = turns::cleared(*record)?;
-        *record = after;
-        Ok(())
+        match turns::cleared(*record) {
+            Err(refusal) => Err(refusal),
+            Ok(after) => {
+                *record = after;
+                Ok(())
+            }
+        }
     }
 
     // Closes the grave for good; the draws that it holds count as voided.
@@ -168,8 +182,12 @@ impl<F: Field, C: Cipher> Book<F, C> {
             return Err(Refusal::GraveOutOfRange);
         }
         let record = &mut self.graves.table[grave as usize];
-        let after = turns::closed(*record)?;
-        *record = after;
-        Ok(())
+        match turns::closed(*record) {
+            Err(refusal) => Err(refusal),
+            Ok(after) => {
+                *record = after;
+                Ok(())
+            }
+        }
     }
 }

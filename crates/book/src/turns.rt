@@ -2,7 +2,8 @@
 ghost use mathlib.Core.Path.{_≡_};
 ghost use mathlib.Core.List.{[], _∷_};
 ghost use Rattle.refusal.specs.Outcomes.{gives, decided};
-ghost use Rattle.promise.specs.Register.{draw-causes, void-causes, use-causes, after-open, after-draw, after-seal, after-void, after-clear, after-close, after-false-seal};
+ghost use Rattle.promise.specs.Records.{after-open, after-draw, after-seal, after-void, after-clear, after-close, after-false-seal};
+ghost use Rattle.promise.specs.Register.{draw-causes, void-causes, use-causes};
 ghost use Rattle.promise.specs.Register as rule;
 ghost use Rattle.book.specs.Entries.{the-record, turned, standing-of};
 ghost use Rattle.book.specs.Turns.{open-here, check-here};

@@ -30,3 +30,14 @@ absent (c ∷ cs) y is =
 
 pub same-value : {A : Type 0} (cs : List Cause) {x : A} (y : A) → gives x ≡ decided cs (gives y) → x ≡ y
 same-value cs y is = let value = is ∙ sym (undecided cs (gives y) (absent cs y is)) in cc
+
+-- a refusal does not rest on what would have been given
+pub alike : {A B : Type 0} (cs : List Cause) (n : ℕ) (x : A) (o : Outcome B) → refuses n ≡ decided cs (gives x)
+    → refuses n ≡ decided cs o
+alike [] n x o is = let never : _≡_ {A = ℕ} 0 1 = cc in absurd (omega arith)
+alike {A} {B} (c ∷ cs) n x o is = by-test (c .there) (c .number) (decided cs (gives x)) (decided cs o) (alike cs n x o) is
+  where
+    by-test : (t : Bool) (m : ℕ) (d : Outcome A) (d′ : Outcome B) → (refuses n ≡ d → refuses n ≡ d′)
+        → refuses n ≡ cond {A = Outcome A} t (refuses m) d → refuses n ≡ cond {A = Outcome B} t (refuses m) d′
+    by-test true m d d′ rest e = let same : n ≡ m = cc in ap refuses same
+    by-test false m d d′ rest e = rest e

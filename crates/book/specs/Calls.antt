@@ -1,6 +1,5 @@
 -- What a call of the book's code did, by the rules. Assumes nothing.
 use mathlib.Core.Path.{_≡_}
-use mathlib.Core.Bool.{Bool}
 use mathlib.Core.List.{List, [], _∷_}
 use Prim.Native.Nat.{ℕ, _<_}
 use lib.Dec.{ltb}
@@ -13,16 +12,13 @@ use Rattle.refusal.specs.declared.Refusal.{Refusal}
 use Rattle.refusal.specs.Numbers.{number-of}
 use Rattle.refusal.specs.Outcomes.{Outcome, gives, refuses, _when_, decided}
 use Rattle.seal.specs.Sealing.{Sealing}
-use Rattle.promise.specs.History.{Call, Given, Sheet, event, History}
-use Rattle.promise.specs.History as heard
+use Rattle.promise.specs.History.{Call, Given, event, History}
 use Rattle.promise.specs.Records.{Table, Record, State, grave}
 use Rattle.promise.specs.Register.{answer, table, Reached}
 use Rattle.book.specs.declared.calls.Draw.{Draw}
 use Rattle.book.specs.declared.calls.Returned.{Returned}
 use Rattle.book.specs.declared.calls.Account.{Account}
-use Rattle.book.specs.declared.turns.Standing.{Standing}
 use Rattle.book.specs.States.{state}
-use Rattle.book.specs.Entries.{standing-of}
 
 -- From a sealing and a table, the call c was answered by o, and left a sealing and a table.
 pub record Done (S : Sealing) (t : Table) (c : Call) (o : Outcome (Given c)) (S′ : Sealing) (t′ : Table) : Type 0 where
@@ -43,16 +39,9 @@ abbrev pub sealed-told : Result ℕ Returned → Outcome ℕ
 sealed-told (Ok s) = gives s
 sealed-told (Err b) = refuses (number-of (b .refusal))
 
-abbrev pub checked-told : Result Standing Refusal → Outcome heard.Standing
-checked-told (Ok v) = gives (standing-of v)
-checked-told (Err w) = refuses (number-of w)
-
 abbrev pub plain-told : Result (Unit {0}) Refusal → Outcome (Unit {0})
 plain-told (Ok u) = gives tt
 plain-told (Err w) = refuses (number-of w)
-
-abbrev pub sheet : ℕ → List ℕ → ℕ → Sheet
-sheet draw text seal = record { draw = draw; text = text; seal = seal }
 
 -- what the book tells of a grave
 pub record Told : Type 0 where

@@ -3,4 +3,5 @@ pub mod States
 pub mod Sound
 pub mod Entries
 pub mod Turns
+pub mod Checks
 pub mod Calls

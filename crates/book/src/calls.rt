@@ -10,16 +10,17 @@ ghost use Rattle.promise.specs.Records.{new, is-used};
 ghost use Rattle.promise.specs.Register.{Reached};
 ghost use Rattle.promise.specs.Promise.{Promise};
 ghost use Rattle.book.specs.Entries.{records};
-ghost use Rattle.book.specs.Calls.{Done, drawn-told, sealed-told, checked-told, plain-told, account-told, tell-outcome, Owing, sheet};
+ghost use Rattle.book.specs.Checks.{checked-told, claimed};
+ghost use Rattle.book.specs.Calls.{Done, drawn-told, sealed-told, plain-told, account-told, tell-outcome, Owing};
 use crate::entry::Entry;
 use crate::entry::State;
 use crate::held;
 use crate::held::Held;
 use crate::record::Record;
 use crate::turns;
+use crate::turns::Checked;
+use crate::turns::Claim;
 use crate::turns::Standing;
-use seal::admit;
-use seal::check_seal;
 use seal::seal_text;
 use seal::Cipher;
 use seal::Field;
@@ -190,4 +191,106 @@ impl<F: Field, C: Cipher> Book<F, C> {
             }
         }
     }
+
+    // Opens a free grave with a key that no grave of this book has or had.
+    pub fn open(&mut self, grave: u16, key: Key) -> Result<(), Refusal>
+        ensures done { λ r. ⌜ Done (sealing (F·Field .model) (C·Cipher .function (now (self .entry) .cipher))) (records (now (self .entry) .graves .table)) (to-open grave key) (plain-told r) (sealing (F·Field .model) (C·Cipher .function (now (self .exit) .cipher))) (records (now (self .exit) .graves .table)) ⌝ }
+        ensures kept { λ _. ⌜ (now (self .exit) .field ≡ now (self .entry) .field) × (now (self .exit) .cipher ≡ now (self .entry) .cipher) ⌝ }
+    {
+        if grave > LAST_GRAVE {
+            return Err(Refusal::GraveOutOfRange);
+        }
+        let before = self.graves.table[grave as usize];
+        match turns::opened(before, key) {
+            Err(refusal) => Err(refusal),
+            Ok(after) => {
+                if key_used(&self.graves.table, key) {
+                    return Err(Refusal::KeyUsed);
+                }
+                let record = &mut self.graves.table[grave as usize];
+                *record = after;
+                Ok(())
+            }
+        }
+    }
+
+    // Seals a text under the draw, or hands the draw back. A lock does not stop it.
+    pub fn seal(&mut self, draw: Draw, text: &[u8], ring: &mut [u64]) -> Result<u64, Returned>
+        ensures done { λ r. ⌜ Done (sealing (F·Field .model) (C·Cipher .function (now (self .entry) .cipher))) (records (now (self .entry) .graves .table)) (to-seal (draw .grave) (draw .number) (now (text .entry)) (length (now (ring .entry)))) (sealed-told r) (sealing (F·Field .model) (C·Cipher .function (now (self .exit) .cipher))) (records (now (self .exit) .graves .table)) ⌝ }
+        ensures back { λ r. ⌜ refused r (λ b. b .draw ≡ draw) ⌝ }
+        ensures zeros { λ _. ⌜ now (ring .exit) ≡ replicate (length (now (ring .entry))) 0 ⌝ }
+        ensures kept { λ _. ⌜ now (self .exit) .field ≡ now (self .entry) .field ⌝ }
+    {
+        let guard = Wipe { ring };
+        let record = &mut self.graves.table[draw.grave as usize];
+        let key = record.entry.key;
+        match turns::sealed(*record, draw.number) {
+            Err(refusal) => Err(Returned { refusal, draw }),
+            Ok(after) => match seal_text::<F, C>(&mut self.cipher, key, draw.number, text, guard.ring) {
+                Err(refusal) => Err(Returned { refusal, draw }),
+                Ok(seal) => {
+                    draw.spend();
+                    *record = after;
+                    Ok(seal)
+                }
+            },
+        }
+    }
+
+    // Whether a sheet is one that the office sealed. A wrong seal is counted at its grave, and the fourth locks it.
+    pub fn check(&mut self, grave: u16, claim: Claim<'_>, ring: &mut [u64]) -> Result<Standing, Refusal>
+        ensures done { λ r. ⌜ Done (sealing (F·Field .model) (C·Cipher .function (now (self .entry) .cipher))) (records (now (self .entry) .graves .table)) (to-check grave (claimed (claim .entry)) (length (now (ring .entry)))) (checked-told r) (sealing (F·Field .model) (C·Cipher .function (now (self .exit) .cipher))) (records (now (self .exit) .graves .table)) ⌝ }
+        ensures zeros { λ _. ⌜ now (ring .exit) ≡ replicate (length (now (ring .entry))) 0 ⌝ }
+        ensures kept { λ _. ⌜ now (self .exit) .field ≡ now (self .entry) .field ⌝ }
+    {
+        let guard = Wipe { ring };
+        if grave > LAST_GRAVE {
+            return Err(Refusal::GraveOutOfRange);
+        }
+        let record = &mut self.graves.table[grave as usize];
+        let Checked { answer, after } = turns::check_at::<F, C>(&mut self.cipher, *record, claim, guard.ring);
+        *record = after;
+        answer
+    }
+
+    // State, counts and current draw of a grave.
+    pub fn tell(&self, grave: u16) -> Result<Account, Refusal>
+        ensures { λ r. ⌜ account-told r ≡ tell-outcome (records (now (self .entry) .graves .table)) grave ⌝ }
+    {
+        if grave > LAST_GRAVE {
+            return Err(Refusal::GraveOutOfRange);
+        }
+        let entry = self.graves.table[grave as usize].entry;
+        Ok(Account {
+            state: entry.state,
+            sealed: entry.sealed,
+            voided: entry.voided,
+            held: held::count(entry.held),
+            current: entry.current,
+        })
+    }
+
+    // Some grave with held draws, if there is one.
+    pub fn owing(&self) -> Option<u8>
+        ensures owing { λ r. ⌜ Owing (records (now (self .entry) .graves .table)) r ⌝ }
+    {
+        for (grave, record) in self.graves.table.iter().enumerate() {
+            if held::count(record.entry.held) > 0 {
+                return Some(grave as u8);
+            }
+        }
+        None
+    }
+}
+
+// Whether a grave that is not free has the key.
+fn key_used(table: &[Record], key: Key) -> bool
+    ensures { λ r. ⌜ r ≡ is-used (records (now (table .entry))) key ⌝ }
+{
+    for record in table {
+        if turns::holds_key(record.entry, key) {
+            return true;
+        }
+    }
+    false
 }

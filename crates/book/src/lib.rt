@@ -10,4 +10,5 @@ pub use calls::Book;
 pub use calls::Draw;
 pub use calls::Returned;
 pub use entry::State;
+pub use turns::Claim;
 pub use turns::Standing;

@@ -1,23 +1,40 @@
 // What each call makes of its grave's record, or why it is refused there.
 ghost use mathlib.Core.Path.{_≡_};
-ghost use mathlib.Core.List.{[], _∷_};
+ghost use mathlib.Core.Bool.{not, _&&_};
+ghost use lib.ListN.{length};
 ghost use Rattle.refusal.specs.Outcomes.{gives, decided};
-ghost use Rattle.promise.specs.Records.{after-open, after-draw, after-seal, after-void, after-clear, after-close, after-false-seal};
-ghost use Rattle.promise.specs.Register.{draw-causes, void-causes, use-causes};
+ghost use Rattle.promise.specs.Records.{is-free, same-key, after-open, after-draw, after-seal, after-void, after-clear, after-close, after-false-seal};
+ghost use Rattle.seal.specs.Seals.{sealing};
+ghost use Rattle.promise.specs.Register.{draw-causes, void-causes, use-causes, check-causes};
 ghost use Rattle.promise.specs.Register as rule;
 ghost use Rattle.book.specs.Entries.{the-record, turned, standing-of};
+ghost use Rattle.book.specs.States.{state};
 ghost use Rattle.book.specs.Turns.{open-here, check-here};
+ghost use Rattle.book.specs.Checks.{claimed, checked-told, after-answer};
 use crate::entry::next_state;
 use crate::entry::Entry;
 use crate::entry::Event;
+use crate::entry::State;
 use crate::held;
 use crate::held::Held;
 use crate::record::Record;
+use seal::admit;
+use seal::check_seal;
+use seal::Cipher;
+use seal::Field;
 use seal::Key;
 use seal::Refusal;
 
 // How many draws a grave hands out in all.
 const MOST_DRAWS: u64 = 1_000_000;
+
+// Whether the record is of a grave that has or had the key.
+pub fn holds_key(entry: Entry, key: Key) -> bool
+    ensures { λ r. ⌜ r ≡ (not (is-free (state (entry .state))) && same-key (entry .key) key) ⌝ }
+{
+    let used = !matches!(entry.state, State::Free);
+    used && entry.key.first == key.first && entry.key.second == key.second
+}
 
 pub fn opened(before: Record, key: Key) -> Result<Record, Refusal>
     ensures { λ r. ⌜ turned r ≡ decided (open-here (the-record before)) (gives (after-open key (the-record before))) ⌝ }
@@ -138,5 +155,63 @@ pub fn standing_of(current: Option<u64>, draw: u64) -> Standing
     match current {
         Some(newest) if newest == draw => Standing::Current,
         _ => Standing::Superseded,
+    }
+}
+
+// A sheet's parts, as they are given to a check.
+#[derive(Clone, Copy)]
+pub struct Claim<'a> {
+    pub draw: u64,
+    pub text: &'a [u8],
+    pub seal: u64,
+}
+
+// The answer to a check, and the record afterwards.
+pub struct Checked {
+    pub answer: Result<Standing, Refusal>,
+    pub after: Record,
+}
+
+// The cipher is asked only where no earlier test refuses.
+pub fn check_at<F: Field, C: Cipher>(cipher: &mut C, before: Record, claim: Claim<'_>, ring: &mut [u64]) -> Checked
+    ensures answer { λ r. ⌜ checked-told (r .answer) ≡ decided (check-causes (sealing (F·Field .model) (C·Cipher .function (now (cipher .entry)))) 0 (the-record before) (claimed (claim .entry)) (length (now (ring .entry)))) (gives (rule.standing (before .entry .current) (claim .entry .draw))) ⌝ }
+    ensures after { λ r. ⌜ the-record (r .after) ≡ after-answer (the-record before) (checked-told (r .answer)) ⌝ }
+    ensures kept { λ _. ⌜ C·Cipher .function (now (cipher .exit)) ≡ C·Cipher .function (now (cipher .entry)) ⌝ }
+{
+    let entry = before.entry;
+    let refused = match with_false_seal(before) {
+        Err(refusal) => {
+            return Checked {
+                answer: Err(refusal),
+                after: before,
+            };
+        }
+        Ok(after) => after,
+    };
+    if let Err(refusal) = admit(claim.text, ring.len()) {
+        return Checked {
+            answer: Err(refusal),
+            after: before,
+        };
+    }
+    if claim.draw >= entry.next {
+        return Checked {
+            answer: Err(Refusal::DrawNotHandedOut),
+            after: before,
+        };
+    }
+    match check_seal::<F, C>(cipher, entry.key, claim.draw, claim.text, claim.seal, ring) {
+        Err(refusal) => Checked {
+            answer: Err(refusal),
+            after: before,
+        },
+        Ok(true) => Checked {
+            answer: Ok(standing_of(entry.current, claim.draw)),
+            after: before,
+        },
+        Ok(false) => Checked {
+            answer: Err(Refusal::SealWrong),
+            after: refused,
+        },
     }
 }

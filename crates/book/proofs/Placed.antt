@@ -14,7 +14,9 @@ use Rattle.promise.specs.Records.{grave, free}
 use Rattle.promise.specs.Records as rule
 use Rattle.promise.specs.Register.{written, draw-causes, use-causes}
 use Rattle.book.specs.declared.record.Record.{Record}
+use Rattle.book.specs.declared.calls.Account.{Account}
 use Rattle.book.specs.Entries.{the-record, records}
+use Rattle.book.specs.Calls.{Told, told-of, account, tell-outcome}
 
 module _ (rs : List Record) (g : ℕ) (d : Record) (there : g < length rs) where
   -- the grave's record, as the code and as the rules find it
@@ -73,3 +75,17 @@ turned-beyond t g cs v after above = (
   beyond g cs (gives v) above,
   ap (written t g) (beyond g cs (gives after) above),
 )
+
+-- what is told of a grave's record, with so many draws held
+abbrev told-with : rule.Record → ℕ → Told
+told-with q h = record { state = q .state; sealed = q .sealed; voided = q .voided; held = h; current = q .current }
+
+pub told-so : (rs : List Record) (g : ℕ) (d : Record) → g < length rs → g ≤ 255 → (h : ℕ)
+    → h ≡ length (the-record (getD rs g d) .held) → (a : Account) → account a ≡ told-with (the-record (getD rs g d)) h
+    → gives (account a) ≡ tell-outcome (records rs) g
+told-so rs g d there within h counted a is =
+    ap gives
+        (is
+        ∙ ap (told-with (the-record (getD rs g d))) counted
+        ∙ ap told-of (place rs g d there))
+    ∙ ap (λ (b : Bool). cond {A = Outcome Told} b (refuses 1) (gives (told-of (grave (records rs) g)))) (sym (le-ltb 255 g within))

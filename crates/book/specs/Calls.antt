@@ -71,4 +71,4 @@ tell-outcome t g = decided (1 when ltb 255 g ∷ []) (gives (told-of (grave t g)
 -- a grave with held draws, or none where no grave has any
 abbrev pub Owing : Table → Option ℕ → Type 0
 Owing t (Some g) = (g < 256) × (0 < length (grave t g .held))
-Owing t None = (g : ℕ) → grave t g .held ≡ []
+Owing t None = (g : ℕ) → g < 256 → grave t g .held ≡ []

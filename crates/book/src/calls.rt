@@ -260,7 +260,8 @@ impl<F: Field, C: Cipher> Book<F, C> {
         if grave > LAST_GRAVE {
             return Err(Refusal::GraveOutOfRange);
         }
-        let entry = self.graves.table[grave as usize].entry;
+        let table = &self.graves.table;
+        let entry = table[grave as usize].entry;
         Ok(Account {
             state: entry.state,
             sealed: entry.sealed,

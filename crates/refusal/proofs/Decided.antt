@@ -1,8 +1,15 @@
--- Where no cause of refusal is there, the causes decide nothing. Assumes nothing.
+-- Where no cause of refusal is there, the causes decide nothing; where a value is given, none was there. Assumes nothing.
 use mathlib.Core.Path.{_≡_, refl, ap, sym, _∙_}
-use mathlib.Core.Bool.{Bool, false, cond}
+use mathlib.Core.Bool.{Bool, true, false, cond}
 use mathlib.Core.List.{List, [], _∷_}
-use Rattle.refusal.specs.Outcomes.{Outcome, refuses, Cause, decided}
+use Prim.Native.Nat.{ℕ}
+use native.Mathlib.Omega.{arith}
+use Rattle.refusal.specs.Outcomes.{Outcome, gives, refuses, Cause, decided}
+
+gives-unless : {A : Type 0} (there : Bool) (x : A) (n : ℕ) (o : Outcome A) → gives x ≡ cond there (refuses n) o
+    → (there ≡ false) × (gives x ≡ o)
+gives-unless true x n o is = let never : _≡_ {A = ℕ} 0 1 = cc in absurd (omega arith)
+gives-unless false x n o is = (refl, is)
 
 abbrev pub Absent : List Cause → Type 0
 Absent [] = Unit {0}
@@ -13,3 +20,11 @@ undecided [] o none = refl
 undecided {A} (c ∷ cs) o none =
     undecided cs o (none .1)
     ∙ ap (λ (t : Bool). cond {A = Outcome A} t (refuses (c .number)) (decided cs o)) (sym (none .0))
+
+-- where a value was given, no cause is there, and the value is the one that was to be given
+pub given : {A : Type 0} (cs : List Cause) (x y : A) → gives x ≡ decided cs (gives y) → Absent cs × (x ≡ y)
+given [] x y is = (tt, cc)
+given {A} (c ∷ cs) x y is =
+    let first = gives-unless (c .there) x (c .number) (decided cs (gives y)) is in
+    let later = given cs x y (first .1) in
+    ((first .0, later .0), later .1)

@@ -1,12 +1,12 @@
 -- A record's bytes are read as its kind and body, and what is read as a record is its bytes. Assumes nothing.
-use mathlib.Core.Path.{_≡_, refl, sym, ap, ap₂, _∙_}
+use mathlib.Core.Path.{_≡_, refl, sym, ap, ap₂, subst, _∙_}
 use mathlib.Core.Bool.{Bool, true, false, cond, _||_}
 use mathlib.Core.List.{List, _++_}
 use Prim.Native.Nat.{ℕ, _+_, _-_, _^_, _≤_, _<_}
 use native.Mathlib.Omega.{arith}
 use lib.Dec.{ltb}
 use lib.ListN.{length, take, drop}
-use Rattle.std.proofs.shelf.Elements.{all-drop}
+use Rattle.std.proofs.shelf.Elements.{all-take, all-drop}
 use Rattle.std.proofs.shelf.Lists.{length-append, length-drop, length-take-le, take-at, drop-at, drop-drop, take-append-drop}
 use Rattle.std.proofs.shelf.Tests.{le-ltb, ltb-false, or-parts}
 use Rattle.std.specs.declared.option.Option.the-variants.{Some, None}
@@ -81,3 +81,9 @@ exact input p bytes is =
     let f = found input p is in
     sym (written input p bytes f)
     ∙ ap (λ (q : Parts). record-bytes (q .kind) (q .body) ++ q .rest) (sym (f .is))
+
+pub body-bytes : (input : List ℕ) (p : Parts) → Bytes input → Some p ≡ record-of input → Bytes (p .body)
+body-bytes input p bytes is =
+    let f = found input p is in
+    subst (λ (q : Parts). Bytes (q .body)) (sym (f .is))
+    (all-take (λ b. b < 256) (stated input - 2) (drop 6 input) (all-drop (λ b. b < 256) 6 input bytes))

@@ -4,7 +4,7 @@ use mathlib.Core.Bool.{Bool, true, false, cond}
 use mathlib.Core.List.{List, [], _∷_}
 use Prim.Native.Nat.{ℕ}
 use native.Mathlib.Omega.{arith}
-use Rattle.refusal.specs.Outcomes.{Outcome, gives, refuses, Cause, decided}
+use Rattle.refusal.specs.Outcomes.{Outcome, gives, refuses, mapped, Cause, decided}
 
 gives-unless : {A : Type 0} (there : Bool) (x : A) (n : ℕ) (o : Outcome A) → gives x ≡ cond there (refuses n) o
     → (there ≡ false) × (gives x ≡ o)
@@ -28,3 +28,15 @@ given {A} (c ∷ cs) x y is =
     let first = gives-unless (c .there) x (c .number) (decided cs (gives y)) is in
     let later = given cs x y (first .1) in
     ((first .0, later .0), later .1)
+
+pub mapped-decided : {A B : Type 0} (f : A → B) (cs : List Cause) (o : Outcome A)
+    → mapped f (decided cs o) ≡ decided cs (mapped f o)
+mapped-decided f [] o = refl
+mapped-decided {A} {B} f (c ∷ cs) o =
+    mapped-unless (c .there)
+    ∙ ap (λ (p : Outcome B). cond (c .there) (refuses (c .number)) p) (mapped-decided f cs o)
+  where
+    mapped-unless : (there : Bool) → mapped f (cond there (refuses (c .number)) (decided cs o))
+        ≡ cond there (refuses (c .number)) (mapped f (decided cs o))
+    mapped-unless true = refl
+    mapped-unless false = refl

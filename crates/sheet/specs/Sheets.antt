@@ -39,12 +39,12 @@ sheet-in body = record {
   text = drop 18 body;
 }
 
+-- against a grave and a text
+abbrev pub limit-causes : ℕ → List ℕ → List Cause
+limit-causes g bytes = 1 when ltb highest-grave g ∷ 9 when ltb longest-text (length bytes) ∷ []
+
 abbrev pub body-causes : List ℕ → List Cause
-body-causes body =
-    14 when ltb (length body) 18
-    ∷ 1 when ltb highest-grave (sheet-in body .grave)
-    ∷ 9 when ltb longest-text (length (sheet-in body .text))
-    ∷ []
+body-causes body = 14 when ltb (length body) 18 ∷ limit-causes (sheet-in body .grave) (sheet-in body .text)
 
 abbrev pub read-causes : ℕ → List ℕ → List Cause
 read-causes kind body = 15 when not (eqb kind sheet-kind) ∷ body-causes body

@@ -5,16 +5,11 @@ use Prim.Native.Nat.{ℕ, _+_, _≤_}
 use lib.Dec.{ltb}
 use lib.ListN.{length, take, drop}
 use Rattle.refusal.specs.Outcomes.{Cause, _when_, Outcome, gives, refuses, decided}
-use Rattle.bytes.specs.Limits.{longest-text}
-use Rattle.sheet.specs.Sheets.{SealedSheet, highest-grave, sheet-bytes, read-outcome}
+use Rattle.sheet.specs.Sheets.{SealedSheet, sheet-bytes, limit-causes, read-outcome}
 
 -- into a buffer of so many bytes
 abbrev pub write-causes : SealedSheet → ℕ → List Cause
-write-causes s room =
-    1 when ltb highest-grave (s .grave)
-    ∷ 9 when ltb longest-text (length (s .text))
-    ∷ 16 when ltb room (length (sheet-bytes s))
-    ∷ []
+write-causes s room = limit-causes (s .grave) (s .text) ++ 16 when ltb room (length (sheet-bytes s)) ∷ []
 
 abbrev pub write-outcome : SealedSheet → ℕ → Outcome ℕ
 write-outcome s room = decided (write-causes s room) (gives (length (sheet-bytes s)))

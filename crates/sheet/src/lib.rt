@@ -4,7 +4,7 @@ ghost use Prim.Native.Nat.{_+_, _≤_};
 ghost use lib.ListN.{length, take};
 ghost use Rattle.std.specs.Vec.{made};
 ghost use Rattle.refusal.specs.Outcomes.{told, mapped, gives, decided};
-ghost use Rattle.sheet.specs.Sheets.{sheet-in, body-causes, read-outcome};
+ghost use Rattle.sheet.specs.Sheets.{sheet-in, limit-causes, body-causes, read-outcome};
 ghost use Rattle.sheet.specs.Names.{sealed, sheet-seen, all-seen};
 ghost use Rattle.sheet.specs.Writing.{write-outcome, buffer-after, put-at, Reads-back, Writes-back};
 use bytes::LONGEST_TEXT;
@@ -36,6 +36,19 @@ pub struct Read<'a> {
     pub rest: &'a [u8],
 }
 
+// Refuses a grave and a text that no sheet can have.
+fn check_limits(grave: u16, text: &[u8]) -> Result<(), Refusal>
+    ensures { λ r. ⌜ told r ≡ decided (limit-causes grave (now (text .entry))) (gives tt) ⌝ }
+{
+    if grave > HIGHEST_GRAVE {
+        return Err(Refusal::GraveOutOfRange);
+    }
+    if text.len() > LONGEST_TEXT {
+        return Err(Refusal::TextTooLong);
+    }
+    Ok(())
+}
+
 // The parts that follow the kind.
 fn read_body(body: &[u8]) -> Result<Sheet<'_>, Refusal>
     ensures { λ r. ⌜ mapped sheet-seen (told r) ≡ decided (body-causes (now (body .entry))) (gives (sheet-in (now (body .entry)))) ⌝ }
@@ -49,12 +62,7 @@ fn read_body(body: &[u8]) -> Result<Sheet<'_>, Refusal>
     let Some((seal, text)) = take_u64(after_draw) else {
         return Err(Refusal::RecordCutShort);
     };
-    if grave > HIGHEST_GRAVE {
-        return Err(Refusal::GraveOutOfRange);
-    }
-    if text.len() > LONGEST_TEXT {
-        return Err(Refusal::TextTooLong);
-    }
+    check_limits(grave, text)?;
     Ok(Sheet {
         grave: grave as u8,
         draw,
@@ -92,12 +100,7 @@ pub fn write_sheet(grave: u16, draw: u64, seal: u64, text: &[u8], buffer: &mut [
     ensures buffer { λ _. ⌜ now (buffer .exit) ≡ buffer-after (sealed grave draw seal (now (text .entry))) (now (buffer .entry)) ⌝ }
     ensures back { λ r. ⌜ made r (λ n. Reads-back (take n (now (buffer .exit))) (sealed grave draw seal (now (text .entry)))) ⌝ }
 {
-    if grave > HIGHEST_GRAVE {
-        return Err(Refusal::GraveOutOfRange);
-    }
-    if text.len() > LONGEST_TEXT {
-        return Err(Refusal::TextTooLong);
-    }
+    check_limits(grave, text)?;
     let size = FIXED_BYTES + text.len();
     if buffer.len() < size {
         return Err(Refusal::BufferTooShort);

@@ -2,9 +2,12 @@ use mathlib.Core.Path.{_≡_, refl, sym, ap, _∙_}
 use Prim.Native.Nat.{ℕ, _+_, _-_}
 use native.Mathlib.Omega.{arith}
 use lib.ListN.{length}
+use Rattle.std.proofs.shelf.Tests.{ltb-false}
+use Rattle.refusal.proofs.Decided.{given}
+use Rattle.bytes.specs.Limits.{longest-text}
 use Rattle.bytes.specs.Numbers.{bytes-of}
 use Rattle.bytes.proofs.Back.{divided}
-use Rattle.sheet.specs.Sheets.{sheet-kind, sheet-body}
+use Rattle.sheet.specs.Sheets.{sheet-kind, highest-grave, sheet-body, limit-causes}
 use Rattle.sheet.specs.Names.{sealed}
 use Rattle.sheet.proofs.Laying.{begun, laid-on, promised}
 use Rattle.sheet.proofs.write_sheet.Needs as need
@@ -25,5 +28,7 @@ returns c =
     let draw-in = laid-on 16 (bytes-of 8 d) grave-in (c .put-4 .ensures) (c .to-le-bytes-4 .ensures ∙ divided 7 d) refl in
     let seal-in = laid-on 24 (bytes-of 8 s) draw-in (c .put-5 .ensures) (c .to-le-bytes-5 .ensures ∙ divided 7 s) refl in
     let text-in = laid-on (24 + length text) text seal-in (c .put-6 .ensures) refl refl in
-    let all = promised {g = g} {d = d} {s = s} {text = text} (omega arith) (omega arith) (omega arith) (omega arith) (omega arith) text-in in
+    let fit = given (limit-causes g text) tt tt (c .in-Continue-check-limits .ensures tt) .0 in
+    let all = promised {g = g} {d = d} {s = s} {text = text} (ltb-false highest-grave g (fit .0)) (omega arith) (omega arith)
+        (ltb-false longest-text (length text) (fit .1 .0)) (omega arith) text-in in
     record { answer = all .answer; buffer = all .buffer; back = all .back }

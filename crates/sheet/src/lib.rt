@@ -95,7 +95,13 @@ fn put(buffer: &mut [u8], place: usize, bytes: &[u8])
 }
 
 // Writes the sheet's record to the front of the buffer, and gives the record's length.
-pub fn write_sheet(grave: u16, draw: u64, seal: u64, text: &[u8], buffer: &mut [u8]) -> Result<usize, Refusal>
+pub fn write_sheet(
+    grave: u16,
+    draw: u64,
+    seal: u64,
+    text: &[u8],
+    buffer: &mut [u8],
+) -> Result<usize, Refusal>
     ensures answer { λ r. ⌜ told r ≡ write-outcome (sealed grave draw seal (now (text .entry))) (length (now (buffer .entry))) ⌝ }
     ensures buffer { λ _. ⌜ now (buffer .exit) ≡ buffer-after (sealed grave draw seal (now (text .entry))) (now (buffer .entry)) ⌝ }
     ensures back { λ r. ⌜ made r (λ n. Reads-back (take n (now (buffer .exit))) (sealed grave draw seal (now (text .entry)))) ⌝ }

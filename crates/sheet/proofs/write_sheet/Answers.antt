@@ -19,9 +19,8 @@ returns c =
     let s = c .args .seal in
     let text = c .args .text .now in
     let size : ℕ = 2 + length (sheet-body (sealed g d s text)) in
-    let counted : (24 + length text) - 4 ≡ size = omega arith in
     let length-in = laid-on 4 (bytes-of 4 size) (begun (c .args .buffer .now)) (c .put .ensures)
-    (c .to-le-bytes .ensures ∙ divided 3 _ ∙ ap (bytes-of 4) counted) refl in
+    (c .to-le-bytes .ensures ∙ divided 3 _ ∙ ap (bytes-of 4) (omega arith)) refl in
     let kind-in = laid-on 6 (bytes-of 2 sheet-kind) length-in (c .put-2 .ensures)
     (c .to-le-bytes-2 .ensures ∙ divided 1 sheet-kind) refl in
     let grave-in = laid-on 8 (bytes-of 2 g) kind-in (c .put-3 .ensures) (c .to-le-bytes-3 .ensures ∙ divided 1 g) refl in

@@ -1,4 +1,5 @@
--- Where no cause of refusal is there, the causes decide nothing; where a value is given, none was there. Assumes nothing.
+-- Where no cause of refusal is there, the causes decide nothing; where a value is given, none was there.
+-- Assumes nothing.
 use mathlib.Core.Path.{_≡_, refl, ap, sym, _∙_}
 use mathlib.Core.Bool.{Bool, true, false, cond}
 use mathlib.Core.List.{List, [], _∷_}

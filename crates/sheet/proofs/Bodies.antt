@@ -17,7 +17,8 @@ use Rattle.bytes.proofs.Fronts.{Taken}
 use Rattle.sheet.specs.Sheets.{SealedSheet, sheet-body, sheet-in, limit-causes, body-causes}
 use Rattle.sheet.specs.Names.{sealed}
 
-pub length-behind : {n : ℕ} {bytes : List ℕ} {x : ℕ} {rest : List ℕ} → Taken n bytes x rest → length rest ≡ length bytes - n
+pub length-behind : {n : ℕ} {bytes : List ℕ} {x : ℕ} {rest : List ℕ} → Taken n bytes x rest
+    → length rest ≡ length bytes - n
 length-behind {n} {bytes} t = ap length (t .behind) ∙ length-drop n bytes
 
 pub cut-short : (body : List ℕ) (o : Outcome SealedSheet) → length body < 18 → refuses 14 ≡ decided (body-causes body) o

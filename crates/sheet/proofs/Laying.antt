@@ -16,16 +16,16 @@ use Rattle.sheet.specs.Writing.{write-causes, write-outcome, laid, buffer-afte
 use Rattle.sheet.proofs.Trips.{reads-back}
 
 -- the front is in its place, and beyond it all is as it was
-pub record Laid (old front : List ℕ) (n : ℕ) (new : List ℕ) : Type 0 where
+pub record Sofar (old front : List ℕ) (n : ℕ) (new : List ℕ) : Type 0 where
   pub long : length front ≡ n
   pub is : new ≡ front ++ drop n old
 
-pub begun : (old : List ℕ) → Laid old [] 0 old
+pub begun : (old : List ℕ) → Sofar old [] 0 old
 begun old = record { long = refl; is = refl }
 
 -- a piece more, whose bytes are the ones wanted
-pub laid-on : {old front new : List ℕ} {i : ℕ} (j : ℕ) {bytes new′ : List ℕ} (wanted : List ℕ) → Laid old front i new
-    → new′ ≡ put-at new i bytes → bytes ≡ wanted → i + length wanted ≡ j → Laid old (front ++ wanted) j new′
+pub laid-on : {old front new : List ℕ} {i : ℕ} (j : ℕ) {bytes new′ : List ℕ} (wanted : List ℕ) → Sofar old front i new
+    → new′ ≡ put-at new i bytes → bytes ≡ wanted → i + length wanted ≡ j → Sofar old (front ++ wanted) j new′
 laid-on {old} {front} {new} {i} j {bytes} {new′} wanted sofar put same next =
     let past : drop (i + length wanted) (front ++ drop i old) ≡ drop (i + length wanted) old =
     ap (λ (k : ℕ). drop (k + length wanted) (front ++ drop i old)) (sym (sofar .long))
@@ -48,7 +48,7 @@ pub record Promised (g d s : ℕ) (text old : List ℕ) (n : ℕ) (new : List �
   pub back : Reads-back (take n new) (sealed g d s text)
 
 pub promised : {g d s : ℕ} {text old new : List ℕ} {n : ℕ} → g ≤ highest-grave → d < 2 ^ 64 → s < 2 ^ 64
-    → length text ≤ longest-text → n ≤ length old → Laid old (sheet-bytes (sealed g d s text)) n new
+    → length text ≤ longest-text → n ≤ length old → Sofar old (sheet-bytes (sealed g d s text)) n new
     → Promised g d s text old n new
 promised {g} {d} {s} {text} {old} {new} {n} is-grave is-draw is-seal few room whole =
     let sheet = sealed g d s text in

@@ -36,7 +36,8 @@ pub body-decides : (input : List ℕ) (p : Parts) (o : Outcome SealedSheet) → 
     → p .kind ≡ sheet-kind → o ≡ decided (body-causes (p .body)) (gives (sheet-in (p .body)))
     → mapped (λ (s : SealedSheet). (s, p .rest)) o ≡ read-outcome input
 body-decides input p o framed is-kind is =
-    let whole : Outcome (SealedSheet × List ℕ) = decided (body-causes (p .body)) (gives (sheet-in (p .body), p .rest)) in
+    let whole : Outcome (SealedSheet × List ℕ) =
+    decided (body-causes (p .body)) (gives (sheet-in (p .body), p .rest)) in
     ap (mapped (λ (s : SealedSheet). (s, p .rest))) is
     ∙ mapped-decided (λ (s : SealedSheet). (s, p .rest)) (body-causes (p .body)) (gives (sheet-in (p .body)))
     ∙ ap (λ (t : Bool). cond (not t) (refuses 15) whole) (sym (eq-eqb (p .kind) sheet-kind is-kind))

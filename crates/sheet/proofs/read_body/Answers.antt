@@ -37,5 +37,6 @@ returns-in-Break-check-limits c =
     let whole = whole-body grave draw seal in
     let refused = err-from-errBy (c .from-residual .result) (c .from-residual .ensures .1) in
     let n : ℕ = number-of (c .in-Break-check-limits .field-0 .0) in
-    rw (refused .1, refused .2) (limits-decide body (c .in-Some .grave) text (refuses n) (whole .0) (grave .value) (whole .1)
-    (c .in-Break-check-limits .ensures tt))
+    let answered = limits-decide body (c .in-Some .grave) text (refuses n) (whole .0) (grave .value) (whole .1)
+    (c .in-Break-check-limits .ensures tt) in
+    rw (refused .1, refused .2) answered

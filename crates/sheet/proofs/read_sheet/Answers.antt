@@ -18,7 +18,8 @@ returns-in-Break-sheet c =
     let frame : Parts = record { kind = r .kind; body = r .body .now; rest = r .rest .now } in
     let refused = err-from-errBy (c .from-residual .result) (c .from-residual .ensures .1) in
     let n : ℕ = number-of (c .in-Break-sheet .field-0 .0) in
-    let answered = body-decides (c .args .input .now) frame (refuses n) (c .in-Some .ensures tt) (omega arith) (c .in-Break-sheet .ensures tt) in
+    let answered = body-decides (c .args .input .now) frame (refuses n) (c .in-Some .ensures tt) (omega arith)
+    (c .in-Break-sheet .ensures tt) in
     rw (refused .1, refused .2) record { answer = answered; exact = tt }
 
 pub returns : need.returns

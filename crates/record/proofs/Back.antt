@@ -1,13 +1,21 @@
 -- A record's bytes are read as its kind and body, and what is read as a record is its bytes. Assumes nothing.
-use mathlib.Core.Path.{_≡_, refl, sym, ap, ap₂, _∙_}
+use mathlib.Core.Path.{_≡_, refl, sym, ap, ap₂, subst, _∙_}
 use mathlib.Core.Bool.{Bool, true, false, cond, _||_}
 use mathlib.Core.List.{List, _++_}
 use Prim.Native.Nat.{ℕ, _+_, _-_, _^_, _≤_, _<_}
 use native.Mathlib.Omega.{arith}
 use lib.Dec.{ltb}
 use lib.ListN.{length, take, drop}
-use Rattle.std.proofs.shelf.Elements.{all-drop}
-use Rattle.std.proofs.shelf.Lists.{length-append, length-drop, length-take-le, take-at, drop-at, drop-drop, take-append-drop}
+use Rattle.std.proofs.shelf.Elements.{all-take, all-drop}
+use Rattle.std.proofs.shelf.Lists.{
+  length-append,
+  length-drop,
+  length-take-le,
+  take-at,
+  drop-at,
+  drop-drop,
+  take-append-drop,
+}
 use Rattle.std.proofs.shelf.Tests.{le-ltb, ltb-false, or-parts}
 use Rattle.std.specs.declared.option.Option.the-variants.{Some, None}
 use Rattle.bytes.specs.Numbers.{number, bytes-of}
@@ -22,7 +30,8 @@ read-back kind body rest is-kind fits =
     let states : stated input ≡ 2 + length body = number-bytes-of 4 (2 + length body) fits in
     let names : number (take 2 (drop 4 input)) ≡ kind = number-bytes-of 2 kind is-kind in
     let four : ltb (length input) 4 ≡ false = le-ltb (length input) 4 (omega arith) in
-    let whole : ltb (length input) (4 + stated input) ≡ false = le-ltb (length input) (4 + stated input) (omega arith) in
+    let whole : ltb (length input) (4 + stated input) ≡ false =
+    le-ltb (length input) (4 + stated input) (omega arith) in
     let kinded : ltb (stated input) 2 ≡ false = le-ltb (stated input) 2 (omega arith) in
     let inside : take (stated input - 2) (drop 6 input) ≡ body = take-at body rest (stated input - 2) (omega arith) in
     let behind : drop (4 + stated input) input ≡ rest =
@@ -68,7 +77,9 @@ written input p bytes f =
     let behind : drop (4 + stated input) input ≡ drop n (drop 6 input) =
     ap (λ (k : ℕ). drop k input) (sym past) ∙ sym (drop-drop n 6 input) in
     let inner : take n (drop 6 input) ++ drop (4 + stated input) input ≡ drop 2 tail =
-    ap (λ (xs : List ℕ). take n (drop 6 input) ++ xs) behind ∙ take-append-drop n (drop 6 input) ∙ sym (drop-drop 2 4 input) in
+    ap (λ (xs : List ℕ). take n (drop 6 input) ++ xs) behind
+    ∙ take-append-drop n (drop 6 input)
+    ∙ sym (drop-drop 2 4 input) in
     let kinded : bytes-of 2 (number (take 2 tail)) ++ drop 2 tail ≡ tail =
     front-back 2 tail (simp length-drop (omega (arith, f .whole, f .two))) (all-drop (λ b. b < 256) 4 input bytes) in
     ap₂ (λ (k : ℕ) (xs : List ℕ). bytes-of 4 k ++ (bytes-of 2 (number (take 2 tail)) ++ xs)) states inner
@@ -81,3 +92,9 @@ exact input p bytes is =
     let f = found input p is in
     sym (written input p bytes f)
     ∙ ap (λ (q : Parts). record-bytes (q .kind) (q .body) ++ q .rest) (sym (f .is))
+
+pub body-bytes : (input : List ℕ) (p : Parts) → Bytes input → Some p ≡ record-of input → Bytes (p .body)
+body-bytes input p bytes is =
+    let f = found input p is in
+    subst (λ (q : Parts). Bytes (q .body)) (sym (f .is))
+    (all-take (λ b. b < 256) (stated input - 2) (drop 6 input) (all-drop (λ b. b < 256) 6 input bytes))

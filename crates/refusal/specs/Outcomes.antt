@@ -16,6 +16,11 @@ abbrev pub told : {A : Type 0} → Result A Refusal → Outcome A
 told (Ok x) = gives x
 told (Err r) = refuses (number-of r)
 
+-- the outcome with its value turned into another
+abbrev pub mapped : {A B : Type 0} → (A → B) → Outcome A → Outcome B
+mapped f (gives x) = gives (f x)
+mapped f (refuses n) = refuses n
+
 infix 70 _when_
 -- a cause of refusal: the refusal's number, and whether the cause is there
 pub record Cause : Type 0 where

@@ -142,7 +142,7 @@ fn round(k: Words, a: Words, constant: u32) -> Words
 }
 
 // The constants of the sixteen rounds, and of the step behind them.
-const ROUNDS: [u32; 16] = [
+const CONSTANTS: [u32; 17] = [
     0x80,
     0x1b,
     0x36,
@@ -159,18 +159,17 @@ const ROUNDS: [u32; 16] = [
     0x97,
     0x35,
     0x6a,
+    0xd4,
 ];
-
-const LAST: u32 = 0xd4;
 
 fn enciphered(k: Words, block: Words) -> Words
     ensures { λ r. ⌜ r ≡ enciphered-of k block ⌝ }
 {
     let mut a = block;
-    for constant in ROUNDS {
-        a = round(k, a, constant);
+    for constant in &CONSTANTS[0..16] {
+        a = round(k, a, *constant);
     }
-    theta(k, add_constant(LAST, a))
+    theta(k, add_constant(CONSTANTS[16], a))
 }
 
 pub struct Noekeon;

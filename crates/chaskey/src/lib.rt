@@ -107,6 +107,7 @@ pub fn permute(words: Words) -> Words
     v
 }
 
+#[derive(Clone, Copy)]
 pub struct Chaskey;
 
 pub impl Cipher for Chaskey as ChaskeyCipher {

@@ -172,6 +172,7 @@ fn enciphered(k: Words, block: Words) -> Words
     theta(k, add_constant(CONSTANTS[16], a))
 }
 
+#[derive(Clone, Copy)]
 pub struct Noekeon;
 
 pub impl Cipher for Noekeon as NoekeonCipher {

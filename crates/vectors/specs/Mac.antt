@@ -35,7 +35,10 @@ byte-at message i = cond (ltb i (length message)) (getD message i 0) (cond (eqb 
 -- the word of the four bytes from place i on, the first of them the lowest
 abbrev pub word-at : List ℕ → ℕ → ℕ
 word-at message i =
-    byte-at message i + byte-at message (i + 1) * 2 ^ 8 + byte-at message (i + 2) * 2 ^ 16 + byte-at message (i + 3) * 2 ^ 24
+    byte-at message i
+    + byte-at message (i + 1) * 2 ^ 8
+    + byte-at message (i + 2) * 2 ^ 16
+    + byte-at message (i + 3) * 2 ^ 24
 
 unfoldable pub block-at : List ℕ → ℕ → ℕ
 block-at message i = number-of record {
@@ -57,7 +60,7 @@ subkey-of key whole = cond whole (doubled key) (doubled (doubled key))
 abbrev pub lowest-first : ℕ → List ℕ
 lowest-first n = reverse (highest-first 16 n)
 
--- the last block goes through the cipher; n blocks stand before it
+-- n blocks stand before the last, which goes through the cipher
 abbrev pub last-of : ℕ → List ℕ → ℕ → Block
 last-of key message n =
     chaskey

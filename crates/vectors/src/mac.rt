@@ -1,7 +1,7 @@
 // The MAC Chaskey-12, for which test vectors are published: whole blocks go through the rounds, and the last through
 // the cipher, under a key made from the MAC's.
 ghost use mathlib.Core.Path.{_≡_};
-ghost use Prim.Native.Nat.{_+_, _-_, _*_, _/_, _%_, _^_, _<_, _≤_};
+ghost use Prim.Native.Nat.{_+_, _/_, _%_, _^_, _<_};
 ghost use Rattle.vectors.specs.Mac.{doubled, number-of, permuted-number, byte-at, word-at, block-at, subkey-of, mac-of};
 use chaskey::Chaskey;
 use chaskey::ChaskeyCipher;
@@ -11,8 +11,8 @@ use cipher::Block;
 use cipher::Cipher;
 use cipher::Key;
 
-// A block is a number of 128 bits here, its first byte the lowest. As polynomials over the bits, modulo
-// x^128 + x^7 + x^2 + x + 1, this is the product with x.
+// A block is a number of 128 bits here, its first byte the lowest. This is its product with x, as polynomials over the
+// bits modulo x^128 + x^7 + x^2 + x + 1.
 pub fn times_two(a: u128) -> u128
     ensures { λ r. ⌜ r ≡ doubled a ⌝ }
 {

@@ -9,7 +9,7 @@ use lib.ListN.{length}
 use Rattle.cipher.specs.Pairs.{key-of, block-of}
 use Rattle.cipher.specs.Words.{_⊕_}
 use Rattle.chaskey.specs.Chaskey.{chaskey}
-use Rattle.vectors.specs.Mac.{permuted-number, block-at, after, subkey-of, lowest-first, last-of, mac-of}
+use Rattle.vectors.specs.Mac.{permuted-number, block-at, after, subkey-of, lowest-first, mac-of}
 use Rattle.vectors.proofs.mac.mac.Needs as need
 
 pub loop-i-again : need.loop-i-again
@@ -22,19 +22,17 @@ pub returns : need.returns
 unfolding mac-of
 returns c =
     let message : List ℕ = c .args .message .now in
-    let all : c .loop-i .i ≡ (length message - 1) / 16 = omega arith in
-    let state : c .loop-i .v ≡ after (c .args .key) message ((length message - 1) / 16) =
-    c .loop-i .inv ∙ ap (after (c .args .key) message) all in
-    let block : c .block-at-2 .result ≡ block-at message (16 * ((length message - 1) / 16)) =
-    c .block-at-2 .ensures ∙ ap (λ (n : ℕ). block-at message (16 * (n / 16))) (c .saturating-sub-before .ensures) in
-    let under : c .subkey .result ≡ subkey-of (c .args .key) (eqb (length message) (16 * ((length message - 1) / 16) + 16)) =
-    c .subkey .ensures
-    ∙ ap (λ (n : ℕ). subkey-of (c .args .key) (eqb (length message) (16 * (n / 16) + 16))) (c .saturating-sub-before .ensures) in
+    let key : ℕ = c .args .key in
+    let n : ℕ = (length message - 1) / 16 in
+    let before : c .saturating-sub-before .result / 16 ≡ n = omega arith in
+    let all : c .loop-i .i ≡ n = omega arith in
+    let state = c .loop-i .inv ∙ ap (after key message) all in
+    let block = c .block-at-2 .ensures ∙ ap (λ (m : ℕ). block-at message (16 * m)) before in
+    let under = c .subkey .ensures ∙ ap (λ (m : ℕ). subkey-of key (eqb (length message) (16 * m + 16))) before in
     let key-bytes : c .to-le-bytes .result ≡ lowest-first (c .subkey .result) = simp div-one (c .to-le-bytes .ensures) in
     let block-bytes : c .to-le-bytes-2 .result ≡ lowest-first (c .loop-i .v ⊕ c .block-at-2 .result) =
     simp div-one (c .to-le-bytes-2 .ensures) in
     c .encipher .ensures .answer
     ∙ ap₂ chaskey
     (c .from-bytes-key .ensures ∙ ap key-of key-bytes ∙ ap (λ (s : ℕ). key-of (lowest-first s)) under)
-    (c .from-bytes .ensures ∙ ap block-of block-bytes
-    ∙ ap₂ (λ (v b : ℕ). block-of (lowest-first (v ⊕ b))) state block)
+    (c .from-bytes .ensures ∙ ap block-of block-bytes ∙ ap₂ (λ (v b : ℕ). block-of (lowest-first (v ⊕ b))) state block)

@@ -1,0 +1,2 @@
+pub mod Zero
+pub mod Counted

@@ -75,9 +75,10 @@ module _ (S : Sealing) (L : SealingLaws S) (g : ℕ) {past : List Act} (P : Soun
   earned : None-there causes → Earned S past s (standing (newest (sheets past)) (s .draw))
   earned none =
       let u = used (key past) (in-use past) (false-seals past) (none .1 .0) in
+      let few = below-four (key past) (in-use past) (false-seals past) (none .1 .0) (none .1 .1 .0) in
       let k = key-or-none (key past) in
       let t = eqb-true (s .seal) (S .seal k (s .draw) (s .text)) (not-false _ (none .1 .1 .1 .1 .1 .1 .0)) in record {
-        open-then = (u .in-use-now, below-four (key past) (in-use past) (false-seals past) (none .1 .0) (none .1 .1 .0));
+        open-then = (u .in-use-now, few);
         true-sheet = record {
           by = k;
           by-is = u .its-key;
@@ -95,7 +96,7 @@ module _ (S : Sealing) (L : SealingLaws S) (g : ℕ) {past : List Act} (P : Soun
       let r = all-among _ (sheets past) s (P .right) (u .sealed-here) .true-sheet in
       let state-is = open-now (r .by) (r .by-is) in
       let not-free = ap is-free state-is in
-      let its-key = ap key-or-none (r .by-is) in (
+      let its-seal = r .true-seal ∙ ap (λ k. S .seal k (s .draw) (s .text)) (sym (ap key-or-none (r .by-is))) in (
         le-ltb 255 g (omega (arith, low not-free)),
         (
           ap free-or-closed state-is,
@@ -107,7 +108,7 @@ module _ (S : Sealing) (L : SealingLaws S) (g : ℕ) {past : List Act} (P : Soun
                 le-ltb p (S .chunks (s .text)) (u .room),
                 (
                   lt-leb (handed-out past) (s .draw) (r .its-draw),
-                  (not-from-true _ (eq-eqb _ _ (r .true-seal ∙ ap (λ k. S .seal k (s .draw) (s .text)) (sym its-key))), tt),
+                  (not-from-true _ (eq-eqb _ _ its-seal), tt),
                 ),
               ),
             ),

@@ -10,4 +10,5 @@ use Rattle.promise.specs.Register.{answer, table, Reached, next-call}
 pub continues : (S : Sealing) (t t′ : Table) (c : Call) (o : Outcome (Given c)) →
     o ≡ answer S t c → t′ ≡ table S t c → (h : History) → Reached S h t → Reached S (event c o ∷ h) t′
 continues S t t′ c o answered left h run =
-    subst₂ (λ (o : Outcome (Given c)) (t : Table). Reached S (event c o ∷ h) t) (sym answered) (sym left) (next-call run c)
+    subst₂ (λ (o : Outcome (Given c)) (t : Table). Reached S (event c o ∷ h) t) (sym answered) (sym left)
+    (next-call run c)

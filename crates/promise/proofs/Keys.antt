@@ -11,7 +11,8 @@ same-key-true : (j k : Key) → j ≡ k → same-key j k ≡ true
 same-key-true j k e =
     and-from _ _ (eq-eqb _ _ (ap (λ (key : Key). key .first) e)) (eq-eqb _ _ (ap (λ (key : Key). key .second) e))
 
-pub unused : (t : Table) (k : Key) (g : ℕ) → is-used t k ≡ false → is-free (grave t g .state) ≡ false → grave t g .key ≡ k → ⊥
+pub unused : (t : Table) (k : Key) (g : ℕ) → is-used t k ≡ false → is-free (grave t g .state) ≡ false →
+    grave t g .key ≡ k → ⊥
 unused [] k g u f e = true≢false f
 unused (r ∷ rs) k zero u f e =
     both-ways _ (or-parts _ _ u .0) (and-from _ _ (not-from-false _ f) (same-key-true _ _ e))

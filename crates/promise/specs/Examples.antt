@@ -14,7 +14,7 @@ use Rattle.promise.specs.Runs.{left-by}
 
 -- a cipher that adds its key's first number, to see the numbers: no cipher to use
 abbrev pub adding : Sealing
-adding = sealing (modulo (2 ^ 61 - 1)) (λ key block. record { first = key .first + block .first; second = block .second })
+adding = sealing (modulo (2 ^ 61 - 1)) (λ key block. record { first = key .first + block .first; second = 0 })
 
 abbrev pub key-of : ℕ → Key
 key-of n = record { first = n; second = 0 }

@@ -61,7 +61,8 @@ module _ (S : Sealing) where
   -- its hash; or the seal is the cipher's first number for a block that no seal made here ever asked for
   pub data Known (past : List Act) (k : Key) (s : Sheet) : Type 0 where
     was-sealed : Sealed-under past (s .draw) (λ x. x ≡ s .text) → Known past k s
-    shares-hash : Sealed-under past (s .draw) (λ x. (x ≢ s .text) × (S .hash k x ≡ S .hash k (s .text))) → Known past k s
+    shares-hash : Sealed-under past (s .draw) (λ x. (x ≢ s .text) × (S .hash k x ≡ S .hash k (s .text))) →
+        Known past k s
     never-asked : s .seal ≡ S .answer k (S .own-block k (s .draw) (s .text)) .first →
         Never-asked past k (S .own-block k (s .draw) (s .text)) → Known past k s
 
@@ -118,8 +119,8 @@ recorded past = record {
   current = newest (sheets past);
 }
 
--- Over a field and a sealing, whatever calls are made on a new book: the law holds of all that happened, and each record
--- says what was done at its grave. And two texts seldom share a hash, if only a zero factor makes a zero product.
+-- Over a field and a sealing, whatever calls are made on a new book: the law holds of all that happened, and each
+-- record says what was done at its grave. And if only a zero factor makes a zero product, two texts seldom share a hash.
 pub record Promise (m : Model) (S : Sealing) : Type 0 where
   pub law-holds : (h : History) (t : Table) → Reached S h t → Law S h
   pub records-true : (h : History) (t : Table) → Reached S h t → (g : ℕ) → grave t g ≡ recorded (acts g h)

@@ -1,15 +1,14 @@
 -- A check's answer is fair. Assumes nothing.
 use mathlib.Core.Path.{_≡_, refl, sym, ap, subst, _∙_}
 use mathlib.Core.Logic.{_⊎_, _≢_, inl, inr}
-use mathlib.Core.Bool.{Bool, true, false, not}
+use mathlib.Core.Bool.{Bool, false}
 use mathlib.Core.List.{List}
-use Prim.Native.Nat.{ℕ, _<_, _≤_}
+use Prim.Native.Nat.{ℕ, _<_}
 use native.Mathlib.Omega.{arith}
-use lib.Dec.{eqb, ltb, leb}
 use lib.ListN.{length}
 use Rattle.std.specs.shelf.Text.{sameBytes}
 use Rattle.std.specs.declared.option.Option.{Option}
-use Rattle.std.specs.declared.option.Option.the-variants.{Some, None}
+use Rattle.std.specs.declared.option.Option.the-variants.{Some}
 use Rattle.std.proofs.shelf.Equals.{sameBytes-decides}
 use Rattle.std.proofs.shelf.Ways.{not-from-decides}
 use Rattle.std.proofs.shelf.Tests.{ltb-false, leb-false, le-ltb, lt-leb, eq-eqb, eqb-true, not-false, not-from-true}
@@ -18,15 +17,15 @@ use Rattle.cipher.specs.declared.Key.{Key}
 use Rattle.refusal.specs.Outcomes.{Outcome, gives, refuses, Cause, decided}
 use Rattle.seal.specs.Sealing.{Sealing, SealingLaws, Among}
 use Rattle.promise.specs.History.{Sheet, Standing, Act}
-use Rattle.promise.specs.Past.{key, in-use, false-seals, handed-out, sheets, newest, held}
-use Rattle.promise.specs.Records.{State, Open, is-free, free-or-closed, is-locked}
+use Rattle.promise.specs.Past.{key, in-use, false-seals, handed-out, sheets, newest}
+use Rattle.promise.specs.Records.{Open, is-free, free-or-closed, is-locked}
 use Rattle.promise.specs.Register.{check-causes, standing}
 use Rattle.promise.specs.Promise.{Untouched, Known, was-sealed, shares-hash, never-asked, Earned, Fair, state-of}
 use Rattle.promise.specs.Promise.{key-or-none, recorded}
 use Rattle.promise.proofs.Among.{all-among, some-or-none}
 use Rattle.promise.proofs.Causes.{None-there, refuses≢gives, given-where-none, none-where-given}
-use Rattle.promise.proofs.States.{Used, used, below-four, open-state, keyed-not-free}
-use Rattle.promise.proofs.Pasts.{Right, Sound}
+use Rattle.promise.proofs.States.{used, below-four, open-state}
+use Rattle.promise.proofs.Pasts.{Sound}
 
 cases-text : (x y : List ℕ) → (x ≡ y) ⊎ (x ≢ y)
 cases-text x y =

@@ -1,6 +1,6 @@
 -- A call that answers and leaves the table as defined carries any run on. Assumes nothing.
 use mathlib.Core.Path.{_≡_, sym, subst₂}
-use mathlib.Core.List.{List, _∷_}
+use mathlib.Core.List.{_∷_}
 use Rattle.refusal.specs.Outcomes.{Outcome}
 use Rattle.seal.specs.Sealing.{Sealing}
 use Rattle.promise.specs.History.{Call, Given, event, History}

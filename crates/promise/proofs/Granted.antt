@@ -2,13 +2,13 @@
 use mathlib.Core.Path.{_≡_, refl, sym, ap, subst}
 use mathlib.Core.Bool.{true, false}
 use mathlib.Core.List.{List, _∷_}
-use Prim.Native.Nat.{ℕ, _<_, _≤_}
+use Prim.Native.Nat.{ℕ, _<_}
 use native.Mathlib.Numerals.{add-one}
 use native.Mathlib.Omega.{arith}
 use lib.ListN.{length, set}
 use Rattle.std.proofs.shelf.Tests.{ltb-false, leb-false, not-false}
 use Rattle.cipher.specs.declared.Key.{Key}
-use Rattle.seal.specs.Sealing.{Sealing, Among}
+use Rattle.seal.specs.Sealing.{Sealing}
 use Rattle.promise.specs.History.{Act, opened, drawn, sealed, voided, cleared, closed, on, History, acts}
 use Rattle.promise.specs.Past.{key, in-use, false-seals, handed-out, held}
 use Rattle.promise.specs.Records.{State, Record, Table, grave, is-free, free-or-closed, with-state}

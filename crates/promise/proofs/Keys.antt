@@ -1,11 +1,11 @@
 -- A key that no grave has used is no grave's key. Assumes nothing.
-use mathlib.Core.Path.{_≡_, refl, ap}
-use mathlib.Core.Bool.{Bool, true, false}
-use mathlib.Core.List.{List, [], _∷_}
+use mathlib.Core.Path.{_≡_, ap}
+use mathlib.Core.Bool.{true, false}
+use mathlib.Core.List.{[], _∷_}
 use Prim.Native.Nat.{ℕ, zero, suc}
 use Rattle.std.proofs.shelf.Tests.{eq-eqb, or-parts, and-from, both-ways, true≢false, not-from-false}
 use Rattle.cipher.specs.declared.Key.{Key}
-use Rattle.promise.specs.Records.{Record, Table, grave, is-free, same-key, is-used}
+use Rattle.promise.specs.Records.{Table, grave, is-free, same-key, is-used}
 
 same-key-true : (j k : Key) → j ≡ k → same-key j k ≡ true
 same-key-true j k e =

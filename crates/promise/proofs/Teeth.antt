@@ -1,20 +1,17 @@
 -- Each history of a book that goes wrong, with the part of the law that it breaks. Assumes nothing.
-use mathlib.Core.Path.{_≡_, refl, sym, ap, subst, _∙_}
-use mathlib.Core.Logic.{_⊎_, inl, inr}
-use mathlib.Core.Bool.{true, false}
-use mathlib.Core.List.{List, [], _∷_}
-use Prim.Native.Nat.{ℕ, _+_, _<_}
+use mathlib.Core.Path.{_≡_, refl, sym, ap, _∙_}
+use mathlib.Core.Logic.{inl}
+use mathlib.Core.List.{List}
+use Prim.Native.Nat.{ℕ, _+_}
 use native.Mathlib.Nat.{le-refl}
 use native.Mathlib.Omega.{arith}
-use Rattle.std.specs.declared.option.Option.{Option}
-use Rattle.std.specs.declared.option.Option.the-variants.{Some, None}
-use Rattle.std.proofs.shelf.Tests.{true≢false, false≢true}
+use Rattle.std.specs.declared.option.Option.the-variants.{Some}
+use Rattle.std.proofs.shelf.Tests.{false≢true}
 use Rattle.cipher.specs.declared.Key.{Key}
-use Rattle.refusal.specs.Outcomes.{gives, refuses}
 use Rattle.seal.specs.Sealing.{Sealing, Among}
 use Rattle.promise.specs.History.{Sheet, current, superseded, Act}
 use Rattle.promise.specs.Past.{sheets, Is-open}
-use Rattle.promise.specs.Promise.{Law, True-sheet, Untouched}
+use Rattle.promise.specs.Promise.{True-sheet, Untouched}
 use Rattle.promise.specs.Teeth.{Teeth}
 
 current≢superseded : current ≡ superseded → ⊥

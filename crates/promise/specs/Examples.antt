@@ -7,7 +7,7 @@ use Rattle.cipher.specs.declared.Key.{Key}
 use Rattle.refusal.specs.Outcomes.{Outcome, gives, refuses}
 use Rattle.seal.specs.Sealing.{Sealing}
 use Rattle.seal.specs.Seals.{sealing}
-use Rattle.promise.specs.History.{Sheet, Call, to-open, to-draw, to-seal, to-void, to-check, to-clear, to-close}
+use Rattle.promise.specs.History.{Call, to-open, to-draw, to-seal, to-void, to-check, to-clear, to-close}
 use Rattle.promise.specs.History.{Given, current, superseded}
 use Rattle.promise.specs.Register.{answer}
 use Rattle.promise.specs.Runs.{left-by}

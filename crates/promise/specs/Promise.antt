@@ -19,7 +19,7 @@ use Rattle.promise.specs.History.{Sheet, Standing, Act, opened, drawn, sealed,
 use Rattle.promise.specs.History.{History, acts}
 use Rattle.promise.specs.Past.{key, in-use, false-seals, Is-open, handed-out, sheets, newest, held, voids}
 use Rattle.promise.specs.Past.{sealed-under}
-use Rattle.promise.specs.Records.{State, Free, Open, Locked, Closed, Record, no-key, in-use-with, Table, grave}
+use Rattle.promise.specs.Records.{State, Free, Closed, Record, no-key, in-use-with, Table, grave}
 use Rattle.promise.specs.Register.{standing, Reached}
 
 -- A grave's draws: how many were handed out, sealed and voided, and which are held.

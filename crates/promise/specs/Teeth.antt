@@ -4,7 +4,7 @@ use Prim.Native.Nat.{ℕ, zero, suc, _+_}
 use Rattle.cipher.specs.declared.Key.{Key}
 use Rattle.refusal.specs.Outcomes.{Outcome, gives, refuses}
 use Rattle.seal.specs.Sealing.{Sealing}
-use Rattle.promise.specs.History.{Sheet, Standing, current, superseded, Act, opened, drawn, sealed, voided, checked}
+use Rattle.promise.specs.History.{Sheet, Standing, current, superseded, opened, drawn, sealed, voided, checked}
 use Rattle.promise.specs.History.{cleared, closed, Event, on, History}
 use Rattle.promise.specs.Promise.{Law}
 

@@ -12,6 +12,21 @@ abbrev pub None-there : List Cause → Type 0
 None-there [] = Unit {0}
 None-there (c ∷ cs) = (c .there ≡ false) × None-there cs
 
+infixr 20 _also_
+pub _also_ : {A B : Type 0} → A → B → A × B
+a also b = (a, b)
+
+-- whether the cause numbered n is there
+abbrev pub is-there : ℕ → List Cause → Bool
+is-there n [] = false
+is-there n (c ∷ cs) = cond (eqb (c .number) n) (c .there) (is-there n cs)
+
+pub absent : (n : ℕ) (cs : List Cause) → None-there cs → is-there n cs ≡ false
+absent n [] none = refl
+absent n (c ∷ cs) none =
+    cond-both (eqb (c .number) n) (c .there) (is-there n cs) (λ b. b ≡ false)
+    (λ same. none .0) (λ other. absent n cs (none .1))
+
 -- no cause before the one numbered n is there
 abbrev pub None-before : ℕ → List Cause → Type 0
 None-before n [] = Unit {0}

@@ -9,9 +9,9 @@ use Rattle.std.proofs.shelf.Tests.{cond-false, eqb-true}
 use Rattle.refusal.specs.Outcomes.{Outcome, gives, refuses, Cause, decided}
 use Rattle.seal.specs.Sealing.{Sealing, SealingLaws}
 use Rattle.promise.specs.History.{Sheet, to-check, Standing, Act, checked, on, History, acts}
-use Rattle.promise.specs.Past.{key, in-use, false-seals, with-false-seal, sheets, newest}
+use Rattle.promise.specs.Past.{key, in-use, false-seals, with-false-seal, sheets, newest, standing}
 use Rattle.promise.specs.Records.{State, Table, grave, with-state, after-false-seal}
-use Rattle.promise.specs.Register.{check-causes, standing, answer, after-check}
+use Rattle.promise.specs.Register.{check-causes, answer, after-check}
 use Rattle.promise.specs.Promise.{state-of, recorded}
 use Rattle.promise.proofs.Causes.{none-before-refusal}
 use Rattle.promise.proofs.States.{one-false-seal-more}

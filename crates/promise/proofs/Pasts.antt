@@ -15,7 +15,7 @@ use Rattle.seal.specs.Sealing.{Sealing, Among}
 use Rattle.promise.specs.Draws.{without}
 use Rattle.promise.specs.History.{Sheet, Standing, Act, opened, drawn, sealed, voided, checked, cleared, closed}
 use Rattle.promise.specs.Past.{key, handed-out, sheets, held}
-use Rattle.promise.specs.Promise.{Draws-add-up, True-sheet, Fair, Checks-fair}
+use Rattle.promise.specs.Law.{Draws-add-up, True-sheet, Fair, Checks-fair}
 use Rattle.promise.proofs.Among.{all-among, all-from-among}
 use Rattle.promise.proofs.Draws.{among-without, all-without, distinct-without, not-among-without, length-without}
 

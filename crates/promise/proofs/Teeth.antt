@@ -11,7 +11,7 @@ use Rattle.cipher.specs.declared.Key.{Key}
 use Rattle.seal.specs.Sealing.{Sealing, Among}
 use Rattle.promise.specs.History.{Sheet, current, superseded, Act}
 use Rattle.promise.specs.Past.{sheets, Is-open}
-use Rattle.promise.specs.Promise.{True-sheet, Untouched}
+use Rattle.promise.specs.Law.{True-sheet, Untouched}
 use Rattle.promise.specs.Teeth.{Teeth}
 
 current≢superseded : current ≡ superseded → ⊥

@@ -6,7 +6,7 @@ use Rattle.refusal.specs.Outcomes.{Outcome, gives, refuses}
 use Rattle.seal.specs.Sealing.{Sealing}
 use Rattle.promise.specs.History.{Sheet, Standing, current, superseded, opened, drawn, sealed, voided, checked}
 use Rattle.promise.specs.History.{cleared, closed, Event, on, History}
-use Rattle.promise.specs.Promise.{Law}
+use Rattle.promise.specs.Law.{Law}
 
 module _ (S : Sealing) (k : Key) (x y : List ℕ) where
   -- the sheet of text z under draw d

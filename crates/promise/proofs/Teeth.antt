@@ -32,8 +32,8 @@ untouched : (S : Sealing) (past : List Act) (s : Sheet) → Among s (sheets past
     Untouched S past s (S .chunks (s .text))
 untouched S past s here open-then = record { sealed-here = here; room = le-refl _; open-then = open-then }
 
-pub teeth : (S : Sealing) (k : Key) (x y : List ℕ) → Teeth S k x y
-teeth S k x y = record {
+pub teeth : (S : Sealing) (k j : Key) (x y : List ℕ) → Teeth S k j x y
+teeth S k j x y = record {
   turns-all-away = λ n L. L .checks-fair 7 .0 (untouched S _ _ (inl refl) (refl, omega arith));
   locks-after-three = λ n L. L .checks-fair 7 .0 (untouched S _ _ (inl refl) (refl, omega arith));
   locks-another = λ n L. L .checks-fair 7 .0 (untouched S _ _ (inl refl) (refl, omega arith));

@@ -10,8 +10,8 @@ use Rattle.std.specs.declared.option.Option.the-variants.{Some, None}
 use Rattle.cipher.specs.declared.Key.{Key}
 use Rattle.refusal.specs.Outcomes.{Outcome, gives, refuses}
 use Rattle.promise.specs.Draws.{without}
-use Rattle.promise.specs.History.{Sheet, Standing, current, superseded, Act, opened, drawn, sealed, voided, checked, cleared, closed, on}
-use Rattle.promise.specs.History.{turned-away, History, acts}
+use Rattle.promise.specs.History.{Sheet, Standing, current, superseded, on, turned-away, History, acts}
+use Rattle.promise.specs.History.{Act, opened, drawn, sealed, voided, checked, cleared, closed}
 
 -- the key that the grave was opened with
 abbrev pub key : List Act → Option Key

@@ -4,8 +4,6 @@ use mathlib.Core.List.{List, [], _∷_}
 use Prim.Native.Nat.{ℕ}
 use lib.Dec.{eqb, leb, ltb}
 use lib.ListN.{length, set}
-use Rattle.std.specs.declared.option.Option.{Option}
-use Rattle.std.specs.declared.option.Option.the-variants.{Some, None}
 use Rattle.cipher.specs.declared.Key.{Key}
 use Rattle.refusal.specs.Outcomes.{Outcome, gives, refuses, Cause, _when_, decided}
 use Rattle.seal.specs.Sealing.{Sealing}

@@ -42,7 +42,8 @@ module _ (S : Sealing) (k j : Key) (x y : List ℕ) where
     pub turns-all-away : (n : ℕ) → Refuted (check 7 (sheet 0 x) (refuses n) ∷ sealed-once)
     pub locks-after-three : (n : ℕ) → Refuted (check 7 (sheet 0 x) (refuses n) ∷ false-seals-at 7 3 sealed-once)
     pub locks-another : (n : ℕ) → Refuted (check 7 (sheet 0 x) (refuses n) ∷ false-seals-at 8 4 two-open)
-    pub stays-locked : (n : ℕ) → Refuted (check 7 (sheet 0 x) (refuses n) ∷ on 7 cleared ∷ false-seals-at 7 4 sealed-once)
+    pub stays-locked : (n : ℕ) →
+        Refuted (check 7 (sheet 0 x) (refuses n) ∷ on 7 cleared ∷ false-seals-at 7 4 sealed-once)
     -- a sheet passes: at a locked grave, at a closed one, with a wrong seal, under a draw that was never handed out
     pub never-locks : (v : Standing) → Refuted (check 7 (sheet 0 x) (gives v) ∷ false-seals-at 7 4 sealed-once)
     pub passes-at-closed : (v : Standing) → Refuted (check 7 (sheet 0 x) (gives v) ∷ on 7 closed ∷ sealed-once)

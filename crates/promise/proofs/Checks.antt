@@ -1,15 +1,14 @@
 -- A check's answer is fair. Assumes nothing.
 use mathlib.Core.Path.{_≡_, refl, sym, ap, subst, _∙_}
 use mathlib.Core.Logic.{_⊎_, _≢_, inl, inr}
-use mathlib.Core.Bool.{Bool, true, false, not}
+use mathlib.Core.Bool.{Bool, false}
 use mathlib.Core.List.{List}
-use Prim.Native.Nat.{ℕ, _<_, _≤_}
+use Prim.Native.Nat.{ℕ, _<_}
 use native.Mathlib.Omega.{arith}
-use lib.Dec.{eqb, ltb, leb}
 use lib.ListN.{length}
 use Rattle.std.specs.shelf.Text.{sameBytes}
 use Rattle.std.specs.declared.option.Option.{Option}
-use Rattle.std.specs.declared.option.Option.the-variants.{Some, None}
+use Rattle.std.specs.declared.option.Option.the-variants.{Some}
 use Rattle.std.proofs.shelf.Equals.{sameBytes-decides}
 use Rattle.std.proofs.shelf.Ways.{not-from-decides}
 use Rattle.std.proofs.shelf.Tests.{ltb-false, leb-false, le-ltb, lt-leb, eq-eqb, eqb-true, not-false, not-from-true}
@@ -18,15 +17,15 @@ use Rattle.cipher.specs.declared.Key.{Key}
 use Rattle.refusal.specs.Outcomes.{Outcome, gives, refuses, Cause, decided}
 use Rattle.seal.specs.Sealing.{Sealing, SealingLaws, Among}
 use Rattle.promise.specs.History.{Sheet, Standing, Act}
-use Rattle.promise.specs.Past.{key, in-use, false-seals, handed-out, sheets, newest, held}
-use Rattle.promise.specs.Records.{State, Open, is-free, free-or-closed, is-locked}
-use Rattle.promise.specs.Register.{check-causes, standing}
-use Rattle.promise.specs.Promise.{Untouched, Known, was-sealed, shares-hash, never-asked, Earned, Fair, state-of}
-use Rattle.promise.specs.Promise.{key-or-none, recorded}
+use Rattle.promise.specs.Past.{key, in-use, false-seals, handed-out, sheets, newest, standing}
+use Rattle.promise.specs.Records.{Open, is-free, free-or-closed, is-locked}
+use Rattle.promise.specs.Register.{check-causes}
+use Rattle.promise.specs.Law.{Untouched, Known, was-sealed, shares-hash, never-asked, Earned, Fair}
+use Rattle.promise.specs.Promise.{state-of, key-or-none, recorded}
 use Rattle.promise.proofs.Among.{all-among, some-or-none}
-use Rattle.promise.proofs.Causes.{None-there, refuses≢gives, given-where-none, none-where-given}
-use Rattle.promise.proofs.States.{Used, used, below-four, open-state, keyed-not-free}
-use Rattle.promise.proofs.Pasts.{Right, Sound}
+use Rattle.promise.proofs.Causes.{None-there, _also_, absent, refuses≢gives, given-where-none, none-where-given}
+use Rattle.promise.proofs.States.{used, below-four, open-state}
+use Rattle.promise.proofs.Pasts.{Sound}
 
 cases-text : (x y : List ℕ) → (x ≡ y) ⊎ (x ≢ y)
 cases-text x y =
@@ -74,16 +73,18 @@ module _ (S : Sealing) (L : SealingLaws S) (g : ℕ) {past : List Act} (P : Soun
 
   earned : None-there causes → Earned S past s (standing (newest (sheets past)) (s .draw))
   earned none =
-      let u = used (key past) (in-use past) (false-seals past) (none .1 .0) in
       let k = key-or-none (key past) in
-      let t = eqb-true (s .seal) (S .seal k (s .draw) (s .text)) (not-false _ (none .1 .1 .1 .1 .1 .1 .0)) in record {
-        open-then = (u .in-use-now, below-four (key past) (in-use past) (false-seals past) (none .1 .0) (none .1 .1 .0));
+      let in-use-now = absent 4 causes none in
+      let u = used (key past) (in-use past) (false-seals past) in-use-now in
+      let few = below-four (key past) (in-use past) (false-seals past) in-use-now (absent 5 causes none) in
+      let t = eqb-true (s .seal) (S .seal k (s .draw) (s .text)) (not-false _ (absent 12 causes none)) in record {
+        open-then = (u .in-use-now, few);
         true-sheet = record {
           by = k;
           by-is = u .its-key;
           true-seal = t;
-          its-draw = leb-false (handed-out past) (s .draw) (none .1 .1 .1 .1 .1 .0);
-          short = ltb-false (S .longest) (length (s .text)) (none .1 .1 .1 .0);
+          its-draw = leb-false (handed-out past) (s .draw) (absent 11 causes none);
+          short = ltb-false (S .longest) (length (s .text)) (absent 9 causes none);
         };
         known = known S L k s past t;
         standing-is = refl;
@@ -95,25 +96,15 @@ module _ (S : Sealing) (L : SealingLaws S) (g : ℕ) {past : List Act} (P : Soun
       let r = all-among _ (sheets past) s (P .right) (u .sealed-here) .true-sheet in
       let state-is = open-now (r .by) (r .by-is) in
       let not-free = ap is-free state-is in
-      let its-key = ap key-or-none (r .by-is) in (
-        le-ltb 255 g (omega (arith, low not-free)),
-        (
-          ap free-or-closed state-is,
-          (
-            ap is-locked state-is,
-            (
-              le-ltb (S .longest) (length (s .text)) (r .short),
-              (
-                le-ltb p (S .chunks (s .text)) (u .room),
-                (
-                  lt-leb (handed-out past) (s .draw) (r .its-draw),
-                  (not-from-true _ (eq-eqb _ _ (r .true-seal ∙ ap (λ k. S .seal k (s .draw) (s .text)) (sym its-key))), tt),
-                ),
-              ),
-            ),
-          ),
-        ),
-      )
+      let its-seal = r .true-seal ∙ ap (λ k. S .seal k (s .draw) (s .text)) (sym (ap key-or-none (r .by-is))) in
+      le-ltb 255 g (omega (arith, low not-free))
+      also ap free-or-closed state-is
+      also ap is-locked state-is
+      also le-ltb (S .longest) (length (s .text)) (r .short)
+      also le-ltb p (S .chunks (s .text)) (u .room)
+      also lt-leb (handed-out past) (s .draw) (r .its-draw)
+      also not-from-true _ (eq-eqb _ _ its-seal)
+      also tt
     where
       open-now : (k : Key) → key past ≡ Some k → recorded past .state ≡ Open (false-seals past)
       open-now k e =

@@ -10,14 +10,14 @@ use Rattle.std.specs.declared.option.Option.the-variants.{Some, None}
 use Rattle.cipher.specs.declared.Key.{Key}
 use Rattle.seal.specs.Sealing.{Sealing, Among}
 use Rattle.promise.specs.History.{Sheet, Act, opened, on, History, acts}
-use Rattle.promise.specs.Past.{key, in-use, false-seals, handed-out, sheets, held}
-use Rattle.promise.specs.Records.{Record, Table, grave, is-free, is-used}
+use Rattle.promise.specs.Past.{key, in-use, false-seals, sheets}
+use Rattle.promise.specs.Records.{Record, Table, is-free, is-used}
 use Rattle.promise.specs.Promise.{key-or-none, state-of, recorded}
 use Rattle.promise.proofs.Among.{all-among}
 use Rattle.promise.proofs.States.{keyed-not-free, free-has-no-key}
 use Rattle.promise.proofs.Keys.{unused}
-use Rattle.promise.proofs.Pasts.{Right, sound-opened}
-use Rattle.promise.proofs.Runs.{at-each, none≢some, Source, True-book, records-after, sound-after}
+use Rattle.promise.proofs.Pasts.{sound-opened}
+use Rattle.promise.proofs.Runs.{at-each, none≢some, True-book, records-after, sound-after}
 
 module _ (S : Sealing) {h : History} {t : Table} (B : True-book S h t) (g : ℕ) (k : Key)
     (free-now : is-free (recorded (acts g h) .state) ≡ true) (new-key : is-used t k ≡ false) where

@@ -1,6 +1,6 @@
 -- What is true of one grave's past, whatever was done there last. Assumes nothing.
-use mathlib.Core.Path.{_≡_, refl, sym, ap, _∙_}
-use mathlib.Core.Logic.{_⊎_, inl, inr}
+use mathlib.Core.Path.{_≡_, refl, sym, _∙_}
+use mathlib.Core.Logic.{inl, inr}
 use mathlib.Core.List.{List, [], _∷_}
 use Prim.Native.Nat.{ℕ, _+_, _<_, _≤_}
 use native.Mathlib.Omega.{arith}
@@ -14,8 +14,8 @@ use Rattle.refusal.specs.Outcomes.{Outcome}
 use Rattle.seal.specs.Sealing.{Sealing, Among}
 use Rattle.promise.specs.Draws.{without}
 use Rattle.promise.specs.History.{Sheet, Standing, Act, opened, drawn, sealed, voided, checked, cleared, closed}
-use Rattle.promise.specs.Past.{key, handed-out, sheets, held, voids}
-use Rattle.promise.specs.Promise.{Add-up, Draws-add-up, True-sheet, Fair, Checks-fair}
+use Rattle.promise.specs.Past.{key, handed-out, sheets, held}
+use Rattle.promise.specs.Law.{Draws-add-up, True-sheet, Fair, Checks-fair}
 use Rattle.promise.proofs.Among.{all-among, all-from-among}
 use Rattle.promise.proofs.Draws.{among-without, all-without, distinct-without, not-among-without, length-without}
 

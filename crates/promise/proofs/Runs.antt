@@ -1,12 +1,12 @@
 -- What is true of a book after any calls, and what one act more makes of it. Assumes nothing.
 use mathlib.Core.Path.{_≡_, refl, sym, ap, subst, _∙_}
-use mathlib.Core.Logic.{_⊎_, _≢_, inl, inr}
-use mathlib.Core.Bool.{Bool, true, false, cond}
+use mathlib.Core.Logic.{_≢_, inl, inr}
+use mathlib.Core.Bool.{false}
 use mathlib.Core.List.{List, [], _∷_}
 use Prim.Native.Nat.{ℕ, _<_, _≤_}
 use native.Mathlib.Omega.{arith}
 use lib.Dec.{eqb}
-use lib.ListN.{length, getD, set, replicate, length-set, length-replicate, getD-replicate}
+use lib.ListN.{length, set, replicate, length-set, length-replicate, getD-replicate}
 use Rattle.std.specs.declared.option.Option.{Option}
 use Rattle.std.specs.declared.option.Option.the-variants.{Some, None}
 use Rattle.std.proofs.shelf.Lists.{getD-set-same, getD-set-other, getD-past}
@@ -19,6 +19,7 @@ use Rattle.promise.specs.Past.{key, sheets, sealed-under}
 use Rattle.promise.specs.Records.{Record, Table, free, new, grave, is-free}
 use Rattle.promise.specs.Promise.{recorded}
 use Rattle.promise.proofs.Pasts.{Sound, sound-none}
+use Rattle.promise.proofs.Quiet.{Quiet}
 
 -- an act at g is one more of g's, and none of another's
 pub at-each : (P : ℕ → List Act → Type 0) (g : ℕ) (a : Act) (h : History) → P g (a ∷ acts g h) →
@@ -26,12 +27,6 @@ pub at-each : (P : ℕ → List Act → Type 0) (g : ℕ) (a : Act) (h : History
 at-each P g a h here there i =
     cond-both (eqb g i) (a ∷ acts i h) (acts i h) (P i)
     (λ e. subst (λ j. P j (a ∷ acts j h)) (eqb-true g i e) here) (λ e. there i (eqb-false g i e))
-
--- an act that neither opens nor seals
-pub record Quiet (a : Act) : Type 0 where
-  pub same-key : (past : List Act) → key (a ∷ past) ≡ key past
-  pub same-sheets : (past : List Act) → sheets (a ∷ past) ≡ sheets past
-  pub same-under : (g : ℕ) (h : History) → sealed-under (on g a ∷ h) ≡ sealed-under h
 
 -- the grave that sealed a sheet under a key and a draw
 pub record Source (h : History) (under : Option Key × ℕ) : Type 0 where
@@ -113,10 +108,12 @@ module _ (S : Sealing) where
         pub keys-after : (i : ℕ) → key (acts i (on g a ∷ h)) ≡ key (acts i h)
         keys-after = at-each (λ i past. key past ≡ key (acts i h)) g a h (same-key (acts g h)) (λ i other. refl)
 
-        pub keys-apart-after : (i j : ℕ) (k : Key) → key (acts i (on g a ∷ h)) ≡ Some k → key (acts j (on g a ∷ h)) ≡ Some k → i ≡ j
+        pub keys-apart-after : (i j : ℕ) (k : Key) → key (acts i (on g a ∷ h)) ≡ Some k →
+            key (acts j (on g a ∷ h)) ≡ Some k → i ≡ j
         keys-apart-after i j k p q = B .keys-apart i j k (sym (keys-after i) ∙ p) (sym (keys-after j) ∙ q)
 
-        pub source-after : ((i : ℕ) (s : Sheet) → Among s (sheets (acts i h)) → Among s (sheets (acts i (on g a ∷ h)))) →
+        pub source-after :
+            ((i : ℕ) (s : Sheet) → Among s (sheets (acts i h)) → Among s (sheets (acts i (on g a ∷ h)))) →
             (under : Option Key × ℕ) → Among under (sealed-under h) → Source (on g a ∷ h) under
         source-after kept under i =
             let w = B .source under i in record {

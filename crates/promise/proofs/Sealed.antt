@@ -1,21 +1,19 @@
 -- Sealing a sheet under a held draw. Assumes nothing.
 use mathlib.Core.Path.{_≡_, refl, sym, ap, subst, _∙_}
-use mathlib.Core.Logic.{_⊎_, _≢_, inl, inr}
-use mathlib.Core.Bool.{true, false, cond}
-use mathlib.Core.List.{List, _∷_}
+use mathlib.Core.Logic.{_≢_, inl, inr}
+use mathlib.Core.List.{_∷_}
 use Prim.Native.Nat.{ℕ, _<_, _≤_}
-use lib.Dec.{eqb}
 use lib.ListN.{length, set, length-set}
 use Rattle.std.specs.declared.option.Option.{Option}
-use Rattle.std.specs.declared.option.Option.the-variants.{Some, None}
+use Rattle.std.specs.declared.option.Option.the-variants.{Some}
 use Rattle.cipher.specs.declared.Key.{Key}
 use Rattle.seal.specs.Sealing.{Sealing, Among}
-use Rattle.promise.specs.History.{Sheet, Act, sealed, on, History, acts}
-use Rattle.promise.specs.Past.{key, handed-out, sheets, held, sealed-under}
-use Rattle.promise.specs.Records.{Record, Table, grave}
+use Rattle.promise.specs.History.{Sheet, sealed, on, History, acts}
+use Rattle.promise.specs.Past.{key, sheets, held, sealed-under}
+use Rattle.promise.specs.Records.{Record, Table}
 use Rattle.promise.specs.Promise.{recorded}
 use Rattle.promise.proofs.Among.{all-among, all-from-among}
-use Rattle.promise.proofs.Pasts.{Right, sound-sealed}
+use Rattle.promise.proofs.Pasts.{sound-sealed}
 use Rattle.promise.proofs.Runs.{at-each, Source, True-book, records-after, sound-after, keys-after, keys-apart-after}
 use Rattle.promise.proofs.Runs.{source-after}
 

@@ -1,14 +1,13 @@
 -- What a state says of the past that it is read off. Assumes nothing.
 use mathlib.Core.Path.{_≡_, refl, sym, ap, _∙_}
-use mathlib.Core.Bool.{Bool, true, false, cond}
+use mathlib.Core.Bool.{Bool, true, false}
 use Prim.Native.Nat.{ℕ, _+_, _<_}
 use lib.Dec.{ltb}
 use Rattle.std.specs.declared.option.Option.{Option}
 use Rattle.std.specs.declared.option.Option.the-variants.{Some, None}
 use Rattle.std.proofs.shelf.Tests.{cond-both, cond-true, ltb-true, lt-ltb, true≢false, false≢true}
 use Rattle.cipher.specs.declared.Key.{Key}
-use Rattle.promise.specs.Records.{State, Free, Open, Locked, Closed, is-free, free-or-closed, is-locked, in-use-with}
-use Rattle.promise.specs.Records.{one-more}
+use Rattle.promise.specs.Records.{State, Free, Open, Locked, Closed, is-free, free-or-closed, is-locked, one-more}
 use Rattle.promise.specs.Promise.{state-of, key-or-none}
 
 pub free-has-no-key : (o : Option Key) (u : Bool) (n : ℕ) → is-free (state-of o u n) ≡ true → o ≡ None

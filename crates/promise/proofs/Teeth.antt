@@ -1,19 +1,17 @@
 -- Each history of a book that goes wrong, with the part of the law that it breaks. Assumes nothing.
-use mathlib.Core.Path.{_≡_, refl, sym, ap, subst, _∙_}
-use mathlib.Core.Logic.{_⊎_, inl, inr}
-use mathlib.Core.Bool.{true, false}
-use mathlib.Core.List.{List, [], _∷_}
-use Prim.Native.Nat.{ℕ, _+_, _<_}
+use mathlib.Core.Path.{_≡_, refl, sym, ap, _∙_}
+use mathlib.Core.Logic.{inl}
+use mathlib.Core.List.{List}
+use Prim.Native.Nat.{ℕ, _+_}
 use native.Mathlib.Nat.{le-refl}
 use native.Mathlib.Omega.{arith}
-use Rattle.std.specs.declared.option.Option.{Option}
-use Rattle.std.specs.declared.option.Option.the-variants.{Some, None}
-use Rattle.std.proofs.shelf.Tests.{true≢false, false≢true}
+use Rattle.std.specs.declared.option.Option.the-variants.{Some}
+use Rattle.std.proofs.shelf.Tests.{false≢true}
 use Rattle.cipher.specs.declared.Key.{Key}
-use Rattle.refusal.specs.Outcomes.{gives, refuses}
-use Rattle.seal.specs.Sealing.{Sealing}
-use Rattle.promise.specs.History.{Sheet, Standing, current, superseded}
-use Rattle.promise.specs.Promise.{Law, True-sheet}
+use Rattle.seal.specs.Sealing.{Sealing, Among}
+use Rattle.promise.specs.History.{Sheet, current, superseded, Act}
+use Rattle.promise.specs.Past.{sheets, Is-open}
+use Rattle.promise.specs.Law.{True-sheet, Untouched}
 use Rattle.promise.specs.Teeth.{Teeth}
 
 current≢superseded : current ≡ superseded → ⊥
@@ -30,12 +28,16 @@ module _ (S : Sealing) (k : Key) (y : List ℕ) where
       same-key : {j : Key} → Some k ≡ Some j → j ≡ k
       same-key e = cc
 
-pub teeth : (S : Sealing) (k : Key) (x y : List ℕ) → Teeth S k x y
-teeth S k x y = record {
-  turns-all-away = λ n L. L .checks-fair 7 .0 (record { sealed-here = inl refl; room = le-refl _; open-then = (refl, omega arith) });
-  locks-after-three = λ n L. L .checks-fair 7 .0 (record { sealed-here = inl refl; room = le-refl _; open-then = (refl, omega arith) });
-  locks-another = λ n L. L .checks-fair 7 .0 (record { sealed-here = inl refl; room = le-refl _; open-then = (refl, omega arith) });
-  stays-locked = λ n L. L .checks-fair 7 .0 (record { sealed-here = inl refl; room = le-refl _; open-then = (refl, omega arith) });
+untouched : (S : Sealing) (past : List Act) (s : Sheet) → Among s (sheets past) → Is-open past →
+    Untouched S past s (S .chunks (s .text))
+untouched S past s here open-then = record { sealed-here = here; room = le-refl _; open-then = open-then }
+
+pub teeth : (S : Sealing) (k j : Key) (x y : List ℕ) → Teeth S k j x y
+teeth S k j x y = record {
+  turns-all-away = λ n L. L .checks-fair 7 .0 (untouched S _ _ (inl refl) (refl, omega arith));
+  locks-after-three = λ n L. L .checks-fair 7 .0 (untouched S _ _ (inl refl) (refl, omega arith));
+  locks-another = λ n L. L .checks-fair 7 .0 (untouched S _ _ (inl refl) (refl, omega arith));
+  stays-locked = λ n L. L .checks-fair 7 .0 (untouched S _ _ (inl refl) (refl, omega arith));
   never-locks = λ v L. let few = L .checks-fair 7 .0 .open-then .1 in omega arith;
   passes-at-closed = λ v L. false≢true (L .checks-fair 7 .0 .open-then .0);
   takes-any-seal = λ v L. not-true S k y (L .checks-fair 7 .0 .true-sheet);

@@ -1,5 +1,4 @@
 -- The promise holds over every sealing with the laws, and so over that of any field and cipher. Assumes nothing.
-use mathlib.Core.List.{List, [], _∷_}
 use Rattle.std.proofs.shelf.Elements.{all-weaker}
 use Rattle.cipher.specs.declared.Block.{Block}
 use Rattle.cipher.specs.declared.Key.{Key}
@@ -9,11 +8,10 @@ use Rattle.bound.proofs.Theorem.{collision-bound}
 use Rattle.seal.specs.Sealing.{Sealing, SealingLaws}
 use Rattle.seal.specs.Seals.{sealing}
 use Rattle.seal.proofs.Apart.{sealing-laws}
-use Rattle.promise.specs.History.{History, event}
+use Rattle.promise.specs.History.{History}
 use Rattle.promise.specs.Records.{Table}
 use Rattle.promise.specs.Register.{Reached, fresh, next-call}
-use Rattle.promise.specs.Promise.{Law, Promise}
-use Rattle.promise.proofs.Pasts.{Right, Sound}
+use Rattle.promise.specs.Promise.{Promise}
 use Rattle.promise.proofs.Runs.{True-book, true-new}
 use Rattle.promise.proofs.Calls.{true-call}
 

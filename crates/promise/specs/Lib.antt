@@ -4,6 +4,7 @@ pub mod Past
 pub mod Records
 pub mod Register
 pub mod Runs
+pub mod Law
 pub mod Promise
 pub mod Teeth
 pub mod Examples

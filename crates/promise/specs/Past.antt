@@ -10,8 +10,8 @@ use Rattle.std.specs.declared.option.Option.the-variants.{Some, None}
 use Rattle.cipher.specs.declared.Key.{Key}
 use Rattle.refusal.specs.Outcomes.{Outcome, gives, refuses}
 use Rattle.promise.specs.Draws.{without}
-use Rattle.promise.specs.History.{Sheet, Standing, Act, opened, drawn, sealed, voided, checked, cleared, closed, on}
-use Rattle.promise.specs.History.{turned-away, History, acts}
+use Rattle.promise.specs.History.{Sheet, Standing, current, superseded, on, turned-away, History, acts}
+use Rattle.promise.specs.History.{Act, opened, drawn, sealed, voided, checked, cleared, closed}
 
 -- the key that the grave was opened with
 abbrev pub key : List Act → Option Key
@@ -80,6 +80,11 @@ sheets (closed ∷ past) = sheets past
 abbrev pub newest : List Sheet → Option ℕ
 newest [] = None
 newest (s ∷ ss) = Some (s .draw)
+
+-- the standing of a sheet under draw d, where this is the current draw
+abbrev pub standing : Option ℕ → ℕ → Standing
+standing None d = superseded
+standing (Some e) d = cond (eqb e d) current superseded
 
 -- the draws it holds
 abbrev pub held : List Act → List ℕ

@@ -4,14 +4,13 @@ use mathlib.Core.List.{List, [], _∷_}
 use Prim.Native.Nat.{ℕ}
 use lib.Dec.{eqb, leb, ltb}
 use lib.ListN.{length, set}
-use Rattle.std.specs.declared.option.Option.{Option}
-use Rattle.std.specs.declared.option.Option.the-variants.{Some, None}
 use Rattle.cipher.specs.declared.Key.{Key}
 use Rattle.refusal.specs.Outcomes.{Outcome, gives, refuses, Cause, _when_, decided}
 use Rattle.seal.specs.Sealing.{Sealing}
 use Rattle.promise.specs.Draws.{holds}
 use Rattle.promise.specs.History.{Sheet, Call, to-open, to-draw, to-seal, to-void, to-check, to-clear, to-close}
-use Rattle.promise.specs.History.{Given, Standing, current, superseded, event, History}
+use Rattle.promise.specs.History.{Given, Standing, event, History}
+use Rattle.promise.specs.Past.{standing}
 use Rattle.promise.specs.Records.{Record, Table, new, grave, is-free, free-or-closed, is-locked, is-used}
 use Rattle.promise.specs.Records.{after-open, after-draw, after-seal, after-void, after-clear, after-close}
 use Rattle.promise.specs.Records.{after-false-seal}
@@ -57,11 +56,6 @@ abbrev pub use-causes : ℕ → Record → List Cause
 use-causes g r = 1 when ltb 255 g ∷ 4 when free-or-closed (r .state) ∷ []
 
 -- What each call answers.
-
--- of a sheet under draw d, where this is the current draw
-abbrev pub standing : Option ℕ → ℕ → Standing
-standing None d = superseded
-standing (Some e) d = cond (eqb e d) current superseded
 
 abbrev pub answer : Sealing → Table → (c : Call) → Outcome (Given c)
 answer S t (to-open g k) = decided (open-causes t g k) (gives tt)

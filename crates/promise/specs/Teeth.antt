@@ -4,11 +4,11 @@ use Prim.Native.Nat.{ℕ, zero, suc, _+_}
 use Rattle.cipher.specs.declared.Key.{Key}
 use Rattle.refusal.specs.Outcomes.{Outcome, gives, refuses}
 use Rattle.seal.specs.Sealing.{Sealing}
-use Rattle.promise.specs.History.{Sheet, Standing, current, superseded, Act, opened, drawn, sealed, voided, checked}
+use Rattle.promise.specs.History.{Sheet, Standing, current, superseded, opened, drawn, sealed, voided, checked}
 use Rattle.promise.specs.History.{cleared, closed, Event, on, History}
-use Rattle.promise.specs.Promise.{Law}
+use Rattle.promise.specs.Law.{Law}
 
-module _ (S : Sealing) (k : Key) (x y : List ℕ) where
+module _ (S : Sealing) (k j : Key) (x y : List ℕ) where
   -- the sheet of text z under draw d
   abbrev pub sheet : ℕ → List ℕ → Sheet
   sheet d z = record { draw = d; text = z; seal = S .seal k d z }
@@ -25,10 +25,14 @@ module _ (S : Sealing) (k : Key) (x y : List ℕ) where
   abbrev pub sealed-once : History
   sealed-once = on 7 (sealed (sheet 0 x)) ∷ on 7 (drawn 0) ∷ on 7 (opened k) ∷ []
 
-  -- and then n false seals at grave g
-  abbrev pub false-seals-at : ℕ → ℕ → History
-  false-seals-at g zero = sealed-once
-  false-seals-at g (suc n) = check g forged (refuses 12) ∷ false-seals-at g n
+  -- then grave 8 is opened with another key and hands out a draw
+  abbrev pub two-open : History
+  two-open = on 8 (drawn 0) ∷ on 8 (opened j) ∷ sealed-once
+
+  -- n false seals at grave g, after what happened before
+  abbrev pub false-seals-at : ℕ → ℕ → History → History
+  false-seals-at g zero h = h
+  false-seals-at g (suc n) h = check g forged (refuses 12) ∷ false-seals-at g n h
 
   abbrev pub Refuted : History → Type 0
   Refuted h = Law S h → ⊥
@@ -36,11 +40,12 @@ module _ (S : Sealing) (k : Key) (x y : List ℕ) where
   pub record Teeth : Type 0 where
     -- an untouched sheet is refused: at once, after three false seals, after four at another grave, after a clearing
     pub turns-all-away : (n : ℕ) → Refuted (check 7 (sheet 0 x) (refuses n) ∷ sealed-once)
-    pub locks-after-three : (n : ℕ) → Refuted (check 7 (sheet 0 x) (refuses n) ∷ false-seals-at 7 3)
-    pub locks-another : (n : ℕ) → Refuted (check 7 (sheet 0 x) (refuses n) ∷ false-seals-at 8 4)
-    pub stays-locked : (n : ℕ) → Refuted (check 7 (sheet 0 x) (refuses n) ∷ on 7 cleared ∷ false-seals-at 7 4)
+    pub locks-after-three : (n : ℕ) → Refuted (check 7 (sheet 0 x) (refuses n) ∷ false-seals-at 7 3 sealed-once)
+    pub locks-another : (n : ℕ) → Refuted (check 7 (sheet 0 x) (refuses n) ∷ false-seals-at 8 4 two-open)
+    pub stays-locked : (n : ℕ) →
+        Refuted (check 7 (sheet 0 x) (refuses n) ∷ on 7 cleared ∷ false-seals-at 7 4 sealed-once)
     -- a sheet passes: at a locked grave, at a closed one, with a wrong seal, under a draw that was never handed out
-    pub never-locks : (v : Standing) → Refuted (check 7 (sheet 0 x) (gives v) ∷ false-seals-at 7 4)
+    pub never-locks : (v : Standing) → Refuted (check 7 (sheet 0 x) (gives v) ∷ false-seals-at 7 4 sealed-once)
     pub passes-at-closed : (v : Standing) → Refuted (check 7 (sheet 0 x) (gives v) ∷ on 7 closed ∷ sealed-once)
     pub takes-any-seal : (v : Standing) → Refuted (check 7 forged (gives v) ∷ sealed-once)
     pub takes-any-draw : (v : Standing) → Refuted (check 7 (sheet 1 x) (gives v) ∷ sealed-once)

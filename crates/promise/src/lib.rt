@@ -31,7 +31,7 @@ pub fn graves() -> u16
 pub fn false_seals_to_lock() -> u8
     ensures locks { λ r. ⌜ in-use-with r ≡ Locked ⌝ }
     ensures fewer { λ r. ⌜ ((n : ℕ) → n < r → in-use-with n ≡ Open n) ⌝ }
-    ensures teeth { λ _. ⌜ ((S : Sealing) (k : Key) (x y : List ℕ) → Teeth S k x y) ⌝ }
+    ensures teeth { λ _. ⌜ ((S : Sealing) (k j : Key) (x y : List ℕ) → Teeth S k j x y) ⌝ }
     ensures examples { λ _. ⌜ Examples ⌝ }
 {
     4

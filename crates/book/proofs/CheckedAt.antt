@@ -11,7 +11,8 @@ use Rattle.refusal.specs.Outcomes.{Outcome, gives, refuses, Cause, _when_, deci
 use Rattle.seal.specs.Sealing.{Sealing}
 use Rattle.promise.specs.History.{Sheet, Standing, to-check}
 use Rattle.promise.specs.Records.{Record, Table, grave, free, after-false-seal}
-use Rattle.promise.specs.Register.{check-causes, standing, after-check, answer, table}
+use Rattle.promise.specs.Past.{standing}
+use Rattle.promise.specs.Register.{check-causes, after-check, answer, table}
 use Rattle.book.specs.declared.record.Record as code
 use Rattle.book.specs.Entries.{the-record, records}
 use Rattle.book.specs.Checks.{after-answer}
@@ -22,8 +23,8 @@ left-at : (t : Table) (g : ℕ) (o : Outcome Standing) → set t g (after-answer
 left-at t g (gives v) = set-getD t g free
 left-at t g (refuses n) =
     elim (eqb n 12) as (λ b. set t g (cond b (after-false-seal (grave t g)) (grave t g)) ≡ cond b (set t g (after-false-seal (grave t g))) t) [
-      true ↦ refl
-    | false ↦ set-getD t g free
+      | true ↦ refl
+      | false ↦ set-getD t g free
     ]
 
 module _ (S : Sealing) (rs : List code.Record) (g : ℕ) (s : Sheet) (p : ℕ) where
@@ -38,11 +39,10 @@ module _ (S : Sealing) (rs : List code.Record) (g : ℕ) (s : Sheet) (p : ℕ) w
       let here = place rs g d there in
       let q = grave (records rs) g in
       let answered : o ≡ answer S (records rs) (to-check g s p) =
-          heard
-          ∙ ap (λ (r : Record). decided (check-causes S 0 r s p) (gives (standing (r .current) (s .draw)))) here
-          ∙ ap (λ (b : Bool). decided (1 when b ∷ drop 1 (check-causes S 0 q s p)) (gives (standing (q .current) (s .draw))))
-              (sym (le-ltb 255 g within)) in
-      (
+      heard
+      ∙ ap (λ (r : Record). decided (check-causes S 0 r s p) (gives (standing (r .current) (s .draw)))) here
+      ∙ ap (λ (b : Bool). decided (1 when b ∷ drop 1 (check-causes S 0 q s p)) (gives (standing (q .current) (s .draw))))
+      (sym (le-ltb 255 g within)) in (
         answered,
         map-set the-record rs g next
             ∙ ap (set (records rs) g) (left ∙ ap (λ (r : Record). after-answer r o) here)

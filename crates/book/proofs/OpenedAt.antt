@@ -32,7 +32,7 @@ module _ (S : Sealing) (rs : List code.Record) (g : ℕ) (d : code.Record) (ther
   by-rule {A} f =
       ap (λ (q : Record). decided (open-here q) (decided (3 when is-used t k ∷ []) (f q))) (place rs g d there)
       ∙ ap (λ (b : Bool). cond {A = Outcome A} b (refuses 1)
-          (decided (open-here (grave t g)) (decided (3 when is-used t k ∷ []) (f (grave t g))))) (sym (le-ltb 255 g within))
+      (decided (open-here (grave t g)) (decided (3 when is-used t k ∷ []) (f (grave t g))))) (sym (le-ltb 255 g within))
 
   pub not-free : (n : ℕ) → refuses n ≡ decided (open-here found) (gives (after-open k found))
       → (refuses n ≡ answer S t (to-open g k)) × (t ≡ table S t (to-open g k))
@@ -63,6 +63,6 @@ module _ (S : Sealing) (rs : List code.Record) (g : ℕ) (d : code.Record) (ther
       by-key false (gives tt) used ∙ free-here _ ∙ by-rule (λ q. gives tt),
       map-set the-record rs g next
           ∙ ap (written t g)
-              (ap gives (same-value (open-here found) (after-open k found) is)
-              ∙ by-key false (gives (after-open k found)) used ∙ free-here _ ∙ by-rule (λ q. gives (after-open k q))),
+          (ap gives (same-value (open-here found) (after-open k found) is)
+          ∙ by-key false (gives (after-open k found)) used ∙ free-here _ ∙ by-rule (λ q. gives (after-open k q))),
     )

@@ -85,7 +85,7 @@ pub told-so : (rs : List Record) (g : ℕ) (d : Record) → g < length rs → g 
     → gives (account a) ≡ tell-outcome (records rs) g
 told-so rs g d there within h counted a is =
     ap gives
-        (is
-        ∙ ap (told-with (the-record (getD rs g d))) counted
-        ∙ ap told-of (place rs g d there))
+    (is
+    ∙ ap (told-with (the-record (getD rs g d))) counted
+    ∙ ap told-of (place rs g d there))
     ∙ ap (λ (b : Bool). cond {A = Outcome Told} b (refuses 1) (gives (told-of (grave (records rs) g)))) (sym (le-ltb 255 g within))

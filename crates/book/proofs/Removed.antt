@@ -20,8 +20,8 @@ not-held x d [] h = refl
 not-held x d (e ∷ es) h =
     let parts = or-false (eqb e x) (holds x es) h in
     elim (eqb e d) as (λ t. holds x (cond t es (e ∷ without d es)) ≡ false) [
-      true ↦ parts .1
-    | false ↦ ap₂ _||_ (parts .0) (not-held x d es (parts .1))
+      | true ↦ parts .1
+      | false ↦ ap₂ _||_ (parts .0) (not-held x d es (parts .1))
     ]
 
 different-still : (d : ℕ) (ds : List ℕ) → all-different ds ≡ true → all-different (without d ds) ≡ true
@@ -29,8 +29,8 @@ different-still d [] h = refl
 different-still d (e ∷ es) h =
     let parts = and-parts (not (holds e es)) (all-different es) h in
     elim (eqb e d) as (λ t. all-different (cond t es (e ∷ without d es)) ≡ true) [
-      true ↦ parts .1
-    | false ↦
+      | true ↦ parts .1
+      | false ↦
           ap₂ _&&_ (ap not (not-held e d es (not-true (holds e es) (parts .0)))) (different-still d es (parts .1))
     ]
 
@@ -39,18 +39,18 @@ below-still n d [] h = refl
 below-still n d (e ∷ es) h =
     let parts = and-parts (ltb e n) (all-below n es) h in
     elim (eqb e d) as (λ t. all-below n (cond t es (e ∷ without d es)) ≡ true) [
-      true ↦ parts .1
-    | false ↦ ap₂ _&&_ (parts .0) (below-still n d es (parts .1))
+      | true ↦ parts .1
+      | false ↦ ap₂ _&&_ (parts .0) (below-still n d es (parts .1))
     ]
 
 one-fewer : (d : ℕ) (ds : List ℕ) → holds d ds ≡ true → length (without d ds) + 1 ≡ length ds
 one-fewer d [] h = absurd (true≢false (sym h))
 one-fewer d (e ∷ es) h =
     let by-test : (eqb e d || holds d es) ≡ true → length (cond (eqb e d) es (e ∷ without d es)) + 1 ≡ suc (length es) =
-        elim (eqb e d) as (λ t. (t || holds d es) ≡ true → length (cond t es (e ∷ without d es)) + 1 ≡ suc (length es)) [
-          true ↦ λ q. omega arith
-        | false ↦ λ q. let fewer = one-fewer d es q in omega arith
-        ] in
+    elim (eqb e d) as (λ t. (t || holds d es) ≡ true → length (cond t es (e ∷ without d es)) + 1 ≡ suc (length es)) [
+      | true ↦ λ q. omega arith
+      | false ↦ λ q. let fewer = one-fewer d es q in omega arith
+    ] in
     by-test h
 
 -- of draws ds that are held soundly, below n, those that are left once d was found among them and taken out

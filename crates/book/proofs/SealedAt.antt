@@ -47,7 +47,7 @@ module _ (S : Sealing) (rs : List code.Record) (g : ℕ) (d : code.Record) (ther
     alike here k (after-seal n found) (decided of-text (gives (the-seal found))) is ∙ by-rule the-seal,
     unchanged
         ∙ ap (written t g)
-            (alike here k (after-seal n found) (decided of-text (gives (after-seal n found))) is ∙ by-rule (after-seal n)),
+        (alike here k (after-seal n found) (decided of-text (gives (after-seal n found))) is ∙ by-rule (after-seal n)),
   )
 
   module _ (next : code.Record) (is : gives (the-record next) ≡ decided here (gives (after-seal n found))) where
@@ -60,7 +60,7 @@ module _ (S : Sealing) (rs : List code.Record) (g : ℕ) (d : code.Record) (ther
       heard ∙ held-here _ ∙ by-rule the-seal,
       unchanged
           ∙ ap (written t g)
-              (alike of-text k (the-seal found) (gives (after-seal n found)) heard ∙ held-here _ ∙ by-rule (after-seal n)),
+          (alike of-text k (the-seal found) (gives (after-seal n found)) heard ∙ held-here _ ∙ by-rule (after-seal n)),
     )
 
     pub sealed-so : (s : ℕ) → gives s ≡ seal-outcome S (found .key) n text places
@@ -69,7 +69,7 @@ module _ (S : Sealing) (rs : List code.Record) (g : ℕ) (d : code.Record) (ther
       heard ∙ held-here _ ∙ by-rule the-seal,
       map-set the-record rs g next
           ∙ ap (written t g)
-              (ap gives (same-value here (after-seal n found) is)
-              ∙ undecided of-text (gives (after-seal n found)) (absent of-text (the-seal found) heard)
-              ∙ held-here _ ∙ by-rule (after-seal n)),
+          (ap gives (same-value here (after-seal n found) is)
+          ∙ undecided of-text (gives (after-seal n found)) (absent of-text (the-seal found) heard)
+          ∙ held-here _ ∙ by-rule (after-seal n)),
     )

@@ -53,12 +53,20 @@ pub record Told : Type 0 where
 
 abbrev pub told-of : Record → Told
 told-of r = record {
-  state = r .state; sealed = r .sealed; voided = r .voided; held = length (r .held); current = r .current;
+  state = r .state;
+  sealed = r .sealed;
+  voided = r .voided;
+  held = length (r .held);
+  current = r .current;
 }
 
 abbrev pub account : Account → Told
 account a = record {
-  state = state (a .state); sealed = a .sealed; voided = a .voided; held = a .held; current = a .current;
+  state = state (a .state);
+  sealed = a .sealed;
+  voided = a .voided;
+  held = a .held;
+  current = a .current;
 }
 
 abbrev pub account-told : Result Account Refusal → Outcome Told

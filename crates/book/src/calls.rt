@@ -21,12 +21,12 @@ use crate::turns;
 use crate::turns::Checked;
 use crate::turns::Claim;
 use crate::turns::Standing;
-use seal::seal_text;
 use seal::Cipher;
 use seal::Field;
 use seal::Key;
 use seal::Refusal;
 use seal::Wipe;
+use seal::seal_text;
 
 // A draw: the right to seal one sheet at a grave. Only `Book::draw` makes one, and only `Book::seal` and `Book::void`
 // take one; it cannot be let go, copied or made up.
@@ -226,7 +226,13 @@ impl<F: Field, C: Cipher> Book<F, C> {
         let key = record.entry.key;
         match turns::sealed(*record, draw.number) {
             Err(refusal) => Err(Returned { refusal, draw }),
-            Ok(after) => match seal_text::<F, C>(&mut self.cipher, key, draw.number, text, guard.ring) {
+            Ok(after) => match seal_text::<F, C>(
+                &mut self.cipher,
+                key,
+                draw.number,
+                text,
+                guard.ring,
+            ) {
                 Err(refusal) => Err(Returned { refusal, draw }),
                 Ok(seal) => {
                     draw.spend();
@@ -238,7 +244,12 @@ impl<F: Field, C: Cipher> Book<F, C> {
     }
 
     // Whether a sheet is one that the office sealed. A wrong seal is counted at its grave, and the fourth locks it.
-    pub fn check(&mut self, grave: u16, claim: Claim<'_>, ring: &mut [u64]) -> Result<Standing, Refusal>
+    pub fn check(
+        &mut self,
+        grave: u16,
+        claim: Claim<'_>,
+        ring: &mut [u64],
+    ) -> Result<Standing, Refusal>
         ensures done { λ r. ⌜ Done (sealing (F·Field .model) (C·Cipher .function (now (self .entry) .cipher))) (records (now (self .entry) .graves .table)) (to-check grave (claimed (claim .entry)) (length (now (ring .entry)))) (checked-told r) (sealing (F·Field .model) (C·Cipher .function (now (self .exit) .cipher))) (records (now (self .exit) .graves .table)) ⌝ }
         ensures zeros { λ _. ⌜ now (ring .exit) ≡ replicate (length (now (ring .entry))) 0 ⌝ }
         ensures kept { λ _. ⌜ now (self .exit) .field ≡ now (self .entry) .field ⌝ }
@@ -248,7 +259,12 @@ impl<F: Field, C: Cipher> Book<F, C> {
             return Err(Refusal::GraveOutOfRange);
         }
         let record = &mut self.graves.table[grave as usize];
-        let Checked { answer, after } = turns::check_at::<F, C>(&mut self.cipher, *record, claim, guard.ring);
+        let Checked { answer, after } = turns::check_at::<F, C>(
+            &mut self.cipher,
+            *record,
+            claim,
+            guard.ring,
+        );
         *record = after;
         answer
     }

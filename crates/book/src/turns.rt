@@ -6,24 +6,24 @@ ghost use Rattle.refusal.specs.Outcomes.{gives, decided};
 ghost use Rattle.promise.specs.Records.{is-free, same-key, after-open, after-draw, after-seal, after-void, after-clear, after-close, after-false-seal};
 ghost use Rattle.seal.specs.Seals.{sealing};
 ghost use Rattle.promise.specs.Register.{draw-causes, void-causes, use-causes, check-causes};
-ghost use Rattle.promise.specs.Register as rule;
+ghost use Rattle.promise.specs.Past as rule;
 ghost use Rattle.book.specs.Entries.{the-record, turned, standing-of};
 ghost use Rattle.book.specs.States.{state};
 ghost use Rattle.book.specs.Turns.{open-here, check-here};
 ghost use Rattle.book.specs.Checks.{claimed, checked-told, after-answer};
-use crate::entry::next_state;
 use crate::entry::Entry;
 use crate::entry::Event;
 use crate::entry::State;
+use crate::entry::next_state;
 use crate::held;
 use crate::held::Held;
 use crate::record::Record;
-use seal::admit;
-use seal::check_seal;
 use seal::Cipher;
 use seal::Field;
 use seal::Key;
 use seal::Refusal;
+use seal::admit;
+use seal::check_seal;
 
 // How many draws a grave hands out in all.
 const MOST_DRAWS: u64 = 1_000_000;
@@ -42,7 +42,11 @@ pub fn opened(before: Record, key: Key) -> Result<Record, Refusal>
     let entry = before.entry;
     let state = next_state(entry.state, Event::Open)?;
     Ok(Record {
-        entry: Entry { state, key, ..entry },
+        entry: Entry {
+            state,
+            key,
+            ..entry
+        },
     })
 }
 
@@ -173,7 +177,12 @@ pub struct Checked {
 }
 
 // The cipher is asked only where no earlier test refuses.
-pub fn check_at<F: Field, C: Cipher>(cipher: &mut C, before: Record, claim: Claim<'_>, ring: &mut [u64]) -> Checked
+pub fn check_at<F: Field, C: Cipher>(
+    cipher: &mut C,
+    before: Record,
+    claim: Claim<'_>,
+    ring: &mut [u64],
+) -> Checked
     ensures answer { λ r. ⌜ checked-told (r .answer) ≡ decided (check-causes (sealing (F·Field .model) (C·Cipher .function (now (cipher .entry)))) 0 (the-record before) (claimed (claim .entry)) (length (now (ring .entry)))) (gives (rule.standing (before .entry .current) (claim .entry .draw))) ⌝ }
     ensures after { λ r. ⌜ the-record (r .after) ≡ after-answer (the-record before) (checked-told (r .answer)) ⌝ }
     ensures kept { λ _. ⌜ C·Cipher .function (now (cipher .exit)) ≡ C·Cipher .function (now (cipher .entry)) ⌝ }

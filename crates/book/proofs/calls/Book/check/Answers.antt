@@ -38,7 +38,7 @@ returns g c =
     record {
       done = finished S _ (records rs) _ (to-check i s places) _ (ap (sealing m) (checked .ensures .kept))
           (checked-so S rs i s places (c .index-self-grave .result) there (c .if-grave-gt-LAST-GRAVE .left)
-              (checked-told (checked .result .answer)) (checked .result .after) (checked .ensures .answer) (checked .ensures .after));
+          (checked-told (checked .result .answer)) (checked .result .after) (checked .ensures .answer) (checked .ensures .after));
       zeros = search needs;
       kept = refl;
     }

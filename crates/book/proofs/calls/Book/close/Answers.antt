@@ -33,7 +33,7 @@ returns-in-Err g c =
     record {
       done = finished S S (records rs) _ (to-close i) _ refl
           (turned-away rs i (c .index-self-grave .result) there use-causes (λ (q : Record). tt) after-close
-              (use-within i (c .if-grave-gt-LAST-GRAVE .left)) (number-of (c .in-Err .refusal)) (c .in-Err .ensures tt));
+          (use-within i (c .if-grave-gt-LAST-GRAVE .left)) (number-of (c .in-Err .refusal)) (c .in-Err .ensures tt));
       kept = (refl, refl);
     }
 
@@ -46,6 +46,6 @@ returns-in-Ok g c =
     record {
       done = finished S S (records rs) _ (to-close i) _ refl
           (went-through rs i (c .index-self-grave .result) there use-causes (λ (q : Record). tt) after-close
-              (use-within i (c .if-grave-gt-LAST-GRAVE .left)) (c .in-Ok .after) (c .in-Ok .ensures tt));
+          (use-within i (c .if-grave-gt-LAST-GRAVE .left)) (c .in-Ok .after) (c .in-Ok .ensures tt));
       kept = (refl, refl);
     }

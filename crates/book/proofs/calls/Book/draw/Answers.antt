@@ -34,7 +34,7 @@ returns-in-Err g c =
     record {
       done = finished S S (records rs) _ (to-draw i) _ refl
           (turned-away rs i (c .index-self-grave .result) there draw-causes (λ (q : Record). q .next) after-draw
-              (draw-within i (c .if-grave-gt-LAST-GRAVE .left)) (number-of (c .in-Err .refusal)) (c .in-Err .ensures tt));
+          (draw-within i (c .if-grave-gt-LAST-GRAVE .left)) (number-of (c .in-Err .refusal)) (c .in-Err .ensures tt));
       token = tt;
       kept = (refl, refl);
     }
@@ -48,7 +48,7 @@ returns-in-Ok g c =
     record {
       done = finished S S (records rs) _ (to-draw i) _ refl
           (went-through rs i (c .index-self-grave .result) there draw-causes (λ (q : Record). q .next) after-draw
-              (draw-within i (c .if-grave-gt-LAST-GRAVE .left)) (c .in-Ok .after) (c .in-Ok .ensures tt));
+          (draw-within i (c .if-grave-gt-LAST-GRAVE .left)) (c .in-Ok .after) (c .in-Ok .ensures tt));
       token = refl;
       kept = (refl, refl);
     }

@@ -46,7 +46,7 @@ returns-then-key-used g c =
     record {
       done = finished S S (records rs) (records rs) (to-open i (c .args .key)) _ refl
           (key-used S rs i (c .index-self-grave .result) there (c .if-grave-gt-LAST-GRAVE .left) (c .args .key) (c .in-Ok .after) (c .in-Ok .ensures tt)
-              (c .if-key-used .ensures tt));
+          (c .if-key-used .ensures tt));
       kept = (refl, refl);
     }
 
@@ -59,6 +59,6 @@ returns-else-key-used g c =
     record {
       done = finished S S (records rs) _ (to-open i (c .args .key)) _ refl
           (opened S rs i (c .index-self-grave .result) there (c .if-grave-gt-LAST-GRAVE .left) (c .args .key) (c .in-Ok .after) (c .in-Ok .ensures tt)
-              (c .if-key-used .ensures tt));
+          (c .if-key-used .ensures tt));
       kept = (refl, refl);
     }

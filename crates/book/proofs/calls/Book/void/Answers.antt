@@ -22,7 +22,7 @@ returns-in-Err g c =
     record {
       done = finished S S (records rs) _ (to-void i n) _ refl
           (turned-away rs i (c .index-self-grave .result) there (λ (_ : ℕ) (q : Record). void-causes q n) (λ (q : Record). tt)
-              (after-void n) (λ q. refl) (number-of (c .in-Err .refusal)) (c .in-Err .ensures tt));
+          (after-void n) (λ q. refl) (number-of (c .in-Err .refusal)) (c .in-Err .ensures tt));
       kept = (refl, refl);
     }
 
@@ -36,6 +36,6 @@ returns-in-Ok g c =
     record {
       done = finished S S (records rs) _ (to-void i n) _ refl
           (went-through rs i (c .index-self-grave .result) there (λ (_ : ℕ) (q : Record). void-causes q n) (λ (q : Record). tt)
-              (after-void n) (λ q. refl) (c .in-Ok .after) (c .in-Ok .ensures tt));
+          (after-void n) (λ q. refl) (c .in-Ok .after) (c .in-Ok .ensures tt));
       kept = (refl, refl);
     }

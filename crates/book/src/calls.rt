@@ -226,7 +226,7 @@ impl<F: Field, C: Cipher> Book<F, C> {
         let key = record.entry.key;
         match turns::sealed(*record, draw.number) {
             Err(refusal) => Err(Returned { refusal, draw }),
-            Ok(after) => match seal_text::<F, C>(
+            Ok(spent) => match seal_text::<F, C>(
                 &mut self.cipher,
                 key,
                 draw.number,
@@ -236,7 +236,7 @@ impl<F: Field, C: Cipher> Book<F, C> {
                 Err(refusal) => Err(Returned { refusal, draw }),
                 Ok(seal) => {
                     draw.spend();
-                    *record = after;
+                    *record = spent;
                     Ok(seal)
                 }
             },
@@ -254,18 +254,16 @@ impl<F: Field, C: Cipher> Book<F, C> {
         ensures zeros { λ _. ⌜ now (ring .exit) ≡ replicate (length (now (ring .entry))) 0 ⌝ }
         ensures kept { λ _. ⌜ now (self .exit) .field ≡ now (self .entry) .field ⌝ }
     {
-        let guard = Wipe { ring };
+        let wiping = Wipe { ring };
         if grave > LAST_GRAVE {
             return Err(Refusal::GraveOutOfRange);
         }
         let record = &mut self.graves.table[grave as usize];
-        let Checked { answer, after } = turns::check_at::<F, C>(
-            &mut self.cipher,
-            *record,
-            claim,
-            guard.ring,
-        );
-        *record = after;
+        let Checked {
+            answer,
+            after: left,
+        } = turns::check_at::<F, C>(&mut self.cipher, *record, claim, wiping.ring);
+        *record = left;
         answer
     }
 

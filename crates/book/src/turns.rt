@@ -2,7 +2,8 @@
 ghost use mathlib.Core.Path.{_≡_};
 ghost use mathlib.Core.Bool.{not, _&&_};
 ghost use lib.ListN.{length};
-ghost use Rattle.refusal.specs.Outcomes.{gives, decided};
+ghost use Rattle.refusal.specs.Numbers.{number-of};
+ghost use Rattle.refusal.specs.Outcomes.{gives, refuses, decided};
 ghost use Rattle.promise.specs.Records.{is-free, same-key, after-open, after-draw, after-seal, after-void, after-clear, after-close, after-false-seal};
 ghost use Rattle.seal.specs.Seals.{sealing};
 ghost use Rattle.promise.specs.Register.{draw-causes, void-causes, use-causes, check-causes};
@@ -176,7 +177,16 @@ pub struct Checked {
     pub after: Record,
 }
 
-// The cipher is asked only where no earlier test refuses.
+fn turned_away(refusal: Refusal, after: Record) -> Checked
+    ensures { λ r. ⌜ (checked-told (r .answer) ≡ refuses (number-of refusal)) × (r .after ≡ after) ⌝ }
+{
+    Checked {
+        answer: Err(refusal),
+        after,
+    }
+}
+
+// The cipher is asked only where no earlier test refuses; a false seal is counted, and nothing else changes.
 pub fn check_at<F: Field, C: Cipher>(
     cipher: &mut C,
     before: Record,
@@ -188,39 +198,22 @@ pub fn check_at<F: Field, C: Cipher>(
     ensures kept { λ _. ⌜ C·Cipher .function (now (cipher .exit)) ≡ C·Cipher .function (now (cipher .entry)) ⌝ }
 {
     let entry = before.entry;
-    let refused = match with_false_seal(before) {
-        Err(refusal) => {
-            return Checked {
-                answer: Err(refusal),
-                after: before,
-            };
-        }
-        Ok(after) => after,
+    let counted = match with_false_seal(before) {
+        Err(refusal) => return turned_away(refusal, before),
+        Ok(counted) => counted,
     };
     if let Err(refusal) = admit(claim.text, ring.len()) {
-        return Checked {
-            answer: Err(refusal),
-            after: before,
-        };
+        return turned_away(refusal, before);
     }
     if claim.draw >= entry.next {
-        return Checked {
-            answer: Err(Refusal::DrawNotHandedOut),
-            after: before,
-        };
+        return turned_away(Refusal::DrawNotHandedOut, before);
     }
     match check_seal::<F, C>(cipher, entry.key, claim.draw, claim.text, claim.seal, ring) {
-        Err(refusal) => Checked {
-            answer: Err(refusal),
-            after: before,
-        },
+        Err(refusal) => turned_away(refusal, before),
+        Ok(false) => turned_away(Refusal::SealWrong, counted),
         Ok(true) => Checked {
             answer: Ok(standing_of(entry.current, claim.draw)),
             after: before,
-        },
-        Ok(false) => Checked {
-            answer: Err(Refusal::SealWrong),
-            after: refused,
         },
     }
 }

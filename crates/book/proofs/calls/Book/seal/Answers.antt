@@ -40,7 +40,7 @@ returns-in-Err-seal-text g c =
     let there : i < length rs = omega arith in
     record {
       done = finished S _ (records rs) _ (to-seal i n text places) _ (ap (sealing m) (c .in-Err-seal-text .ensures tt .kept))
-          (text-refused S rs i (c .index-self-draw .result) there n text places (c .in-Ok .after) (c .in-Ok .ensures tt)
+          (text-refused S rs i (c .index-self-draw .result) there n text places (c .in-Ok .spent) (c .in-Ok .ensures tt)
           (number-of (c .in-Err-seal-text .refusal)) (c .in-Err-seal-text .ensures tt .answer));
       back = refl;
       zeros = search needs;
@@ -59,7 +59,7 @@ returns g c =
     let there : i < length rs = omega arith in
     record {
       done = finished S _ (records rs) _ (to-seal i n text places) _ (ap (sealing m) (c .in-Ok-seal-text .ensures tt .kept))
-          (sealed-so S rs i (c .index-self-draw .result) there n text places (c .in-Ok .after) (c .in-Ok .ensures tt)
+          (sealed-so S rs i (c .index-self-draw .result) there n text places (c .in-Ok .spent) (c .in-Ok .ensures tt)
           (c .in-Ok-seal-text .seal) (c .in-Ok-seal-text .ensures tt .answer));
       back = tt;
       zeros = search needs;

@@ -1,2 +1,3 @@
 pub mod Mac
 pub mod Asked
+pub mod Published

@@ -2,6 +2,7 @@
 // cipher's name, a key and a block, both in hexadecimal, the enciphered block.
 ghost use mathlib.Core.Path.{_≡_};
 ghost use Rattle.vectors.specs.Asked.{asked-of};
+ghost use Rattle.vectors.specs.Published.{Published};
 
 mod mac;
 
@@ -59,6 +60,13 @@ fn answer(line: &str) -> Option<u128> {
         "chaskey" => Some(asked(&mut Chaskey, key, block)),
         _ => None,
     }
+}
+
+// That the definitions themselves give published answers, some of those that the compiled code is held to below.
+fn definitions_agree() -> bool
+    ensures { λ _. ⌜ Published ⌝ }
+{
+    true
 }
 
 fn run(rt: &LibcRuntime) -> Result<(), AnyError> {

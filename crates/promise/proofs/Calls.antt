@@ -10,7 +10,7 @@ use Rattle.promise.specs.History.{Call, to-open, to-draw, to-seal, to-void, to
 use Rattle.promise.specs.History.{Event, turned-away, event, History}
 use Rattle.promise.specs.Records.{Record, Table, grave}
 use Rattle.promise.specs.Records.{after-open, after-draw, after-seal, after-void, after-clear, after-close}
-use Rattle.promise.specs.Register.{open-causes, draw-causes, seal-causes, void-causes, use-causes}
+use Rattle.promise.specs.Register.{open-causes, draw-causes, seal-causes, void-causes, use-causes, named}
 use Rattle.promise.specs.Register.{answer, written, table}
 use Rattle.promise.proofs.Causes.{None-there}
 use Rattle.promise.proofs.Runs.{True-book, true-refused}
@@ -36,9 +36,10 @@ module _ (S : Sealing) {h : History} {t : Table} (B : True-book S h t) (g : ℕ)
 module _ (S : Sealing) (L : SealingLaws S) {h : History} {t : Table} (B : True-book S h t) where
   pub true-call : (c : Call) → True-book S (event c (answer S t c) ∷ h) (table S t c)
   true-call (to-open g k) =
-      decides S B g (event (to-open g k)) (λ n. refl) (open-causes t g k) tt (after-open k (grave t g)) (opens S B g k)
+      decides S B g (event (to-open g k)) (λ n. refl) (named g (open-causes t (grave t g) k)) tt
+      (after-open k (grave t g)) (opens S B g k)
   true-call (to-draw g) =
-      decides S B g (event (to-draw g)) (λ n. refl) (draw-causes g (grave t g)) (grave t g .next)
+      decides S B g (event (to-draw g)) (λ n. refl) (named g (draw-causes (grave t g))) (grave t g .next)
       (after-draw (grave t g)) (draws S B g)
   true-call (to-seal g d x p) =
       decides S B g (event (to-seal g d x p)) (λ n. refl) (seal-causes S (grave t g) d x p)
@@ -48,8 +49,8 @@ module _ (S : Sealing) (L : SealingLaws S) {h : History} {t : Table} (B : True-b
       (after-void d (grave t g)) (voids S B g d)
   true-call (to-check g s p) = checks S L B g s p
   true-call (to-clear g) =
-      decides S B g (event (to-clear g)) (λ n. refl) (use-causes g (grave t g)) tt
+      decides S B g (event (to-clear g)) (λ n. refl) (named g (use-causes (grave t g))) tt
       (after-clear (grave t g)) (clears S B g)
   true-call (to-close g) =
-      decides S B g (event (to-close g)) (λ n. refl) (use-causes g (grave t g)) tt
+      decides S B g (event (to-close g)) (λ n. refl) (named g (use-causes (grave t g))) tt
       (after-close (grave t g)) (closes S B g)

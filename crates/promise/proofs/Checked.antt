@@ -11,7 +11,7 @@ use Rattle.seal.specs.Sealing.{Sealing, SealingLaws}
 use Rattle.promise.specs.History.{Sheet, to-check, Standing, Act, checked, on, History, acts}
 use Rattle.promise.specs.Past.{key, in-use, false-seals, with-false-seal, sheets, newest, standing}
 use Rattle.promise.specs.Records.{State, Table, grave, with-state, after-false-seal}
-use Rattle.promise.specs.Register.{check-causes, answer, after-check}
+use Rattle.promise.specs.Register.{check-causes, named, answer, after-check}
 use Rattle.promise.specs.Promise.{state-of, recorded}
 use Rattle.promise.proofs.Causes.{none-before-refusal}
 use Rattle.promise.proofs.States.{one-false-seal-more}
@@ -27,7 +27,7 @@ module _ (S : Sealing) (L : SealingLaws S) {h : History} {t : Table} (B : True-b
   past = acts g h
 
   abbrev causes : List Cause
-  causes = check-causes S g (recorded past) s p
+  causes = named g (check-causes S (recorded past) s p)
 
   abbrev given : Outcome Standing
   given = gives (standing (newest (sheets past)) (s .draw))
@@ -71,6 +71,6 @@ module _ (S : Sealing) (L : SealingLaws S) {h : History} {t : Table} (B : True-b
       (after-check t g (answer S t (to-check g s p)))
   checks =
       at-record S B g (λ r.
-      let o = decided (check-causes S g r s p) (gives (standing (r .current) (s .draw))) in
+      let o = decided (named g (check-causes S r s p)) (gives (standing (r .current) (s .draw))) in
       True-book S (on g (checked s p o) ∷ h) (after-check t g o))
       (checks-at (decided causes given) refl)

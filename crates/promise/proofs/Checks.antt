@@ -19,7 +19,7 @@ use Rattle.seal.specs.Sealing.{Sealing, SealingLaws, Among}
 use Rattle.promise.specs.History.{Sheet, Standing, Act}
 use Rattle.promise.specs.Past.{key, in-use, false-seals, handed-out, sheets, newest, standing}
 use Rattle.promise.specs.Records.{Open, is-free, free-or-closed, is-locked}
-use Rattle.promise.specs.Register.{check-causes}
+use Rattle.promise.specs.Register.{check-causes, named}
 use Rattle.promise.specs.Law.{Untouched, Known, was-sealed, shares-hash, never-asked, Earned, Fair}
 use Rattle.promise.specs.Promise.{state-of, key-or-none, recorded}
 use Rattle.promise.proofs.Among.{all-among, some-or-none}
@@ -69,7 +69,7 @@ module _ (S : Sealing) (L : SealingLaws S) (k : Key) (s : Sheet) where
 
 module _ (S : Sealing) (L : SealingLaws S) (g : ℕ) {past : List Act} (P : Sound S past) (s : Sheet) (p : ℕ) where
   abbrev causes : List Cause
-  causes = check-causes S g (recorded past) s p
+  causes = named g (check-causes S (recorded past) s p)
 
   earned : None-there causes → Earned S past s (standing (newest (sheets past)) (s .draw))
   earned none =

@@ -13,7 +13,7 @@ use Rattle.promise.specs.History.{Act, opened, drawn, sealed, voided, cleared,
 use Rattle.promise.specs.Past.{key, in-use, false-seals, handed-out, held}
 use Rattle.promise.specs.Records.{State, Record, Table, grave, is-free, free-or-closed, with-state}
 use Rattle.promise.specs.Records.{after-open, after-draw, after-seal, after-void, after-clear, after-close}
-use Rattle.promise.specs.Register.{open-causes, draw-causes, seal-causes, void-causes, use-causes}
+use Rattle.promise.specs.Register.{open-causes, draw-causes, seal-causes, void-causes, use-causes, named}
 use Rattle.promise.specs.Promise.{key-or-none, recorded}
 use Rattle.promise.proofs.Draws.{among-from-holds}
 use Rattle.promise.proofs.Causes.{None-there, absent}
@@ -38,21 +38,23 @@ module _ (S : Sealing) {h : History} {t : Table} (B : True-book S h t) (g : ℕ)
   pub in-the-book : free-or-closed (recorded past .state) ≡ false → g < 256
   in-the-book in-use = one-of-the-book S B g (used-not-free (recorded past .state) in-use)
 
-  pub opens : (k : Key) → None-there (open-causes t g k) →
+  pub opens : (k : Key) → None-there (named g (open-causes t (grave t g) k)) →
       True-book S (on g (opened k) ∷ h) (set t g (after-open k (grave t g)))
   opens k none =
-      let low = ltb-false 255 g (absent 1 (open-causes t g k) none) in
-      let free = not-false (is-free (grave t g .state)) (absent 2 (open-causes t g k) none) in
-      let new-key = absent 3 (open-causes t g k) none in
+      let causes = named g (open-causes t (grave t g) k) in
+      let low = ltb-false 255 g (absent 1 causes none) in
+      let free = not-false (is-free (grave t g .state)) (absent 2 causes none) in
+      let new-key = absent 3 causes none in
       true-open S B g k (subst (λ (r : Record). is-free (r .state) ≡ true) (B .records g) free) new-key (omega arith)
       (after-open k (grave t g)) (ap (after-open k) (B .records g))
 
-  pub draws : None-there (draw-causes g (grave t g)) →
+  pub draws : None-there (named g (draw-causes (grave t g))) →
       True-book S (on g (drawn (grave t g .next)) ∷ h) (set t g (after-draw (grave t g)))
   draws =
-      at-record (λ r. None-there (draw-causes g r) → True-book S (on g (drawn (r .next)) ∷ h) (set t g (after-draw r)))
+      at-record (λ r. None-there (named g (draw-causes r)) →
+      True-book S (on g (drawn (r .next)) ∷ h) (set t g (after-draw r)))
       (λ none.
-      let causes = draw-causes g (recorded past) in
+      let causes = named g (draw-causes (recorded past)) in
       let room = leb-false 4 (length (held past)) (absent 6 causes none) in
       let more = leb-false 1000000 (handed-out past) (absent 7 causes none) in
       true-act S B g (drawn (handed-out past)) (drawn-quiet (handed-out past)) (sound-drawn S (B .sound g) room more)
@@ -84,22 +86,22 @@ module _ (S : Sealing) {h : History} {t : Table} (B : True-book S h t) (g : ℕ)
       true-act S B g (voided d) (voided-quiet d) (sound-voided S (B .sound g) d here)
       (after-void d (recorded past)) (in-the-book (absent 4 causes none)) refl)
 
-  pub clears : None-there (use-causes g (grave t g)) →
+  pub clears : None-there (named g (use-causes (grave t g))) →
       True-book S (on g cleared ∷ h) (set t g (after-clear (grave t g)))
   clears =
-      at-record (λ r. None-there (use-causes g r) → True-book S (on g cleared ∷ h) (set t g (after-clear r)))
+      at-record (λ r. None-there (named g (use-causes r)) → True-book S (on g cleared ∷ h) (set t g (after-clear r)))
       (λ none.
-      let in-use-now = absent 4 (use-causes g (recorded past)) none in
+      let in-use-now = absent 4 (named g (use-causes (recorded past))) none in
       let its-state = cleared-state (key past) (in-use past) (used-now in-use-now) in
       true-act S B g cleared cleared-quiet (sound-cleared S (B .sound g)) (after-clear (recorded past))
       (in-the-book in-use-now) (ap (λ (s : State). with-state s (recorded past)) its-state))
 
-  pub closes : None-there (use-causes g (grave t g)) →
+  pub closes : None-there (named g (use-causes (grave t g))) →
       True-book S (on g closed ∷ h) (set t g (after-close (grave t g)))
   closes =
-      at-record (λ r. None-there (use-causes g r) → True-book S (on g closed ∷ h) (set t g (after-close r)))
+      at-record (λ r. None-there (named g (use-causes r)) → True-book S (on g closed ∷ h) (set t g (after-close r)))
       (λ none.
-      let in-use-now = absent 4 (use-causes g (recorded past)) none in
+      let in-use-now = absent 4 (named g (use-causes (recorded past))) none in
       let its-state = closed-state (key past) (in-use past) (false-seals past) (used-now in-use-now) in
       true-act S B g closed closed-quiet (sound-closed S (B .sound g)) (after-close (recorded past))
       (in-the-book in-use-now) (ap (λ (s : State). with-state s (after-close (recorded past))) its-state))

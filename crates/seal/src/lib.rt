@@ -5,7 +5,7 @@ ghost use lib.ListN.{length, replicate};
 ghost use Rattle.std.specs.Vec.{made};
 ghost use Rattle.refusal.specs.Outcomes.{gives, told, decided};
 ghost use Rattle.hash.specs.Hash.{text-causes};
-ghost use Rattle.seal.specs.Sealing.{seal-outcome, check-outcome};
+ghost use Rattle.seal.specs.Sealing.{SealingLaws, seal-outcome, check-outcome};
 ghost use Rattle.seal.specs.Seals.{Subkeys, hash-under, sealing};
 use hash::hash_by_working;
 
@@ -67,6 +67,7 @@ pub fn seal_text<F: Field, C: Cipher>(
     ensures answer { λ r. ⌜ told r ≡ seal-outcome (sealing (F·Field .model) (C·Cipher .function (now (cipher .entry)))) key draw (now (text .entry)) (length (now (ring .entry))) ⌝ }
     ensures zeros { λ _. ⌜ now (ring .exit) ≡ replicate (length (now (ring .entry))) 0 ⌝ }
     ensures kept { λ _. ⌜ C·Cipher .function (now (cipher .exit)) ≡ C·Cipher .function (now (cipher .entry)) ⌝ }
+    ensures laws { λ _. ⌜ SealingLaws (sealing (F·Field .model) (C·Cipher .function (now (cipher .entry)))) ⌝ }
 {
     let guard = Wipe { ring };
     let hash = hash_by_key::<F, C>(cipher, key, text, guard.ring)?;

@@ -1,6 +1,7 @@
 use native.Mathlib.Omega.{arith}
 use lib.ListN.{length}
 use borrow.Author.Needs.{needs}
+use Rattle.seal.proofs.Apart.{sealing-laws}
 use Rattle.seal.proofs.Sealed.{sealed}
 use Rattle.seal.proofs.seal_text.Needs as need
 
@@ -16,4 +17,14 @@ returns g c =
           (c .in-Continue-hash .ensures tt .kept) (c .encipher-answer .ensures .answer);
       zeros = search needs;
       kept = search needs;
+      laws = sealing-laws (g .F·Field .model) f;
+    }
+
+pub returns-in-Break-hash : need.returns-in-Break-hash
+returns-in-Break-hash g c =
+    record {
+      answer = search needs;
+      zeros = search needs;
+      kept = search needs;
+      laws = sealing-laws (g .F·Field .model) (g .C·Cipher .function (c .args .cipher .now));
     }

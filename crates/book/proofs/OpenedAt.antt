@@ -3,21 +3,19 @@ use mathlib.Core.Path.{_≡_, sym, ap, _∙_}
 use mathlib.Core.Bool.{Bool, true, false, cond}
 use mathlib.Core.List.{List, [], _∷_}
 use Prim.Native.Nat.{ℕ, _<_, _≤_}
-use lib.Dec.{ltb}
 use lib.ListN.{length, getD, set}
 use lib.Seq.{map-set}
-use Rattle.std.proofs.shelf.Tests.{le-ltb}
 use Rattle.refusal.specs.Outcomes.{Outcome, gives, refuses, Cause, _when_, decided}
 use Rattle.refusal.proofs.Decided.{absent, undecided, same-value, alike}
 use Rattle.cipher.specs.declared.Key.{Key}
 use Rattle.seal.specs.Sealing.{Sealing}
 use Rattle.promise.specs.History.{to-open}
 use Rattle.promise.specs.Records.{Record, grave, is-used, after-open}
-use Rattle.promise.specs.Register.{open-causes, written, answer, table}
+use Rattle.promise.specs.Register.{open-causes, named, written, answer, table}
 use Rattle.book.specs.declared.record.Record as code
 use Rattle.book.specs.Entries.{the-record, records}
 use Rattle.book.specs.Turns.{open-here}
-use Rattle.book.proofs.Placed.{place}
+use Rattle.book.proofs.Placed.{place, within-book}
 
 module _ (S : Sealing) (rs : List code.Record) (g : ℕ) (d : code.Record) (there : g < length rs) (within : g ≤ 255) (k : Key) where
   abbrev found : Record
@@ -26,13 +24,12 @@ module _ (S : Sealing) (rs : List code.Record) (g : ℕ) (d : code.Record) (ther
   abbrev t : List Record
   t = records rs
 
-  -- the causes behind that of a grave beyond the book, with any outcome where none is there
-  by-rule : {A : Type 0} (f : Record → Outcome A)
-      → decided (open-here found) (decided (3 when is-used t k ∷ []) (f found)) ≡ decided (open-causes t g k) (f (grave t g))
-  by-rule {A} f =
-      ap (λ (q : Record). decided (open-here q) (decided (3 when is-used t k ∷ []) (f q))) (place rs g d there)
-      ∙ ap (λ (b : Bool). cond {A = Outcome A} b (refuses 1)
-      (decided (open-here (grave t g)) (decided (3 when is-used t k ∷ []) (f (grave t g))))) (sym (le-ltb 255 g within))
+  -- the record's own cause, and then the key's, with any outcome where neither is there
+  by-rule : {A : Type 0} (f : Record → Outcome A) → decided (open-here found) (decided (3 when is-used t k ∷ []) (f found))
+      ≡ decided (named g (open-causes t (grave t g) k)) (f (grave t g))
+  by-rule f =
+      ap (λ (q : Record). decided (open-causes t q k) (f q)) (place rs g d there)
+      ∙ within-book g within (open-causes t (grave t g) k) (f (grave t g))
 
   pub not-free : (n : ℕ) → refuses n ≡ decided (open-here found) (gives (after-open k found))
       → (refuses n ≡ answer S t (to-open g k)) × (t ≡ table S t (to-open g k))

@@ -52,7 +52,7 @@ pub fn opened(before: Record, key: Key) -> Result<Record, Refusal>
 }
 
 pub fn drawn(before: Record) -> Result<Record, Refusal>
-    ensures { λ r. ⌜ turned r ≡ decided (draw-causes 0 (the-record before)) (gives (after-draw (the-record before))) ⌝ }
+    ensures { λ r. ⌜ turned r ≡ decided (draw-causes (the-record before)) (gives (after-draw (the-record before))) ⌝ }
 {
     let entry = before.entry;
     let state = next_state(entry.state, Event::Draw)?;
@@ -121,7 +121,7 @@ pub fn with_false_seal(before: Record) -> Result<Record, Refusal>
 }
 
 pub fn cleared(before: Record) -> Result<Record, Refusal>
-    ensures { λ r. ⌜ turned r ≡ decided (use-causes 0 (the-record before)) (gives (after-clear (the-record before))) ⌝ }
+    ensures { λ r. ⌜ turned r ≡ decided (use-causes (the-record before)) (gives (after-clear (the-record before))) ⌝ }
 {
     let entry = before.entry;
     let state = next_state(entry.state, Event::Clear)?;
@@ -132,7 +132,7 @@ pub fn cleared(before: Record) -> Result<Record, Refusal>
 
 // The held draws count as voided.
 pub fn closed(before: Record) -> Result<Record, Refusal>
-    ensures { λ r. ⌜ turned r ≡ decided (use-causes 0 (the-record before)) (gives (after-close (the-record before))) ⌝ }
+    ensures { λ r. ⌜ turned r ≡ decided (use-causes (the-record before)) (gives (after-close (the-record before))) ⌝ }
 {
     let entry = before.entry;
     let state = next_state(entry.state, Event::Close)?;
@@ -193,7 +193,7 @@ pub fn check_at<F: Field, C: Cipher>(
     claim: Claim<'_>,
     ring: &mut [u64],
 ) -> Checked
-    ensures answer { λ r. ⌜ checked-told (r .answer) ≡ decided (check-causes (sealing (F·Field .model) (C·Cipher .function (now (cipher .entry)))) 0 (the-record before) (claimed (claim .entry)) (length (now (ring .entry)))) (gives (rule.standing (before .entry .current) (claim .entry .draw))) ⌝ }
+    ensures answer { λ r. ⌜ checked-told (r .answer) ≡ decided (check-causes (sealing (F·Field .model) (C·Cipher .function (now (cipher .entry)))) (the-record before) (claimed (claim .entry)) (length (now (ring .entry)))) (gives (rule.standing (before .entry .current) (claim .entry .draw))) ⌝ }
     ensures after { λ r. ⌜ the-record (r .after) ≡ after-answer (the-record before) (checked-told (r .answer)) ⌝ }
     ensures kept { λ _. ⌜ C·Cipher .function (now (cipher .exit)) ≡ C·Cipher .function (now (cipher .entry)) ⌝ }
 {

@@ -1,14 +1,14 @@
 use mathlib.Core.Path.{refl}
 use Prim.Native.Nat.{_<_}
 use native.Mathlib.Omega.{arith}
-use lib.ListN.{length, drop}
+use lib.ListN.{length}
 use Rattle.refusal.specs.Numbers.{number-of}
 use Rattle.seal.specs.Seals.{sealing}
 use Rattle.promise.specs.History.{to-draw}
 use Rattle.promise.specs.Records.{Record, grave, after-draw}
 use Rattle.promise.specs.Register.{draw-causes}
 use Rattle.book.specs.Entries.{records}
-use Rattle.book.proofs.Placed.{turned-away, went-through, turned-beyond, draw-within}
+use Rattle.book.proofs.Placed.{turned-away, went-through, turned-beyond, no-such-grave, within}
 use Rattle.book.proofs.Finished.{finished}
 use Rattle.book.proofs.calls.Book.draw.Needs as need
 
@@ -20,7 +20,7 @@ returns-then-grave-gt-LAST-GRAVE g c =
     let q = grave t i in
     record {
       done = finished S S t t (to-draw i) _ refl
-          (turned-beyond t i (drop 1 (draw-causes i q)) (q .next) (after-draw q) (c .if-grave-gt-LAST-GRAVE .taken));
+          (turned-beyond t i (draw-causes q) (q .next) (after-draw q) (c .if-grave-gt-LAST-GRAVE .taken));
       token = tt;
       kept = (refl, refl);
     }
@@ -34,7 +34,7 @@ returns-in-Err g c =
     record {
       done = finished S S (records rs) _ (to-draw i) _ refl
           (turned-away rs i (c .index-self-grave .result) there draw-causes (λ (q : Record). q .next) after-draw
-          (draw-within i (c .if-grave-gt-LAST-GRAVE .left)) (number-of (c .in-Err .refusal)) (c .in-Err .ensures tt));
+          (no-such-grave i) (within i (c .if-grave-gt-LAST-GRAVE .left)) (number-of (c .in-Err .refusal)) (c .in-Err .ensures tt));
       token = tt;
       kept = (refl, refl);
     }
@@ -48,7 +48,7 @@ returns-in-Ok g c =
     record {
       done = finished S S (records rs) _ (to-draw i) _ refl
           (went-through rs i (c .index-self-grave .result) there draw-causes (λ (q : Record). q .next) after-draw
-          (draw-within i (c .if-grave-gt-LAST-GRAVE .left)) (c .in-Ok .after) (c .in-Ok .ensures tt));
+          (no-such-grave i) (within i (c .if-grave-gt-LAST-GRAVE .left)) (c .in-Ok .after) (c .in-Ok .ensures tt));
       token = refl;
       kept = (refl, refl);
     }

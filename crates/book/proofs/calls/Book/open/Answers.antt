@@ -1,7 +1,7 @@
 use mathlib.Core.Path.{refl}
 use Prim.Native.Nat.{_<_}
 use native.Mathlib.Omega.{arith}
-use lib.ListN.{length, drop}
+use lib.ListN.{length}
 use Rattle.refusal.specs.Numbers.{number-of}
 use Rattle.seal.specs.Seals.{sealing}
 use Rattle.promise.specs.History.{to-open}
@@ -21,7 +21,7 @@ returns-then-grave-gt-LAST-GRAVE g c =
     let k = c .args .key in
     record {
       done = finished S S t t (to-open i k) _ refl
-          (turned-beyond t i (drop 1 (open-causes t i k)) tt (after-open k (grave t i)) (c .if-grave-gt-LAST-GRAVE .taken));
+          (turned-beyond t i (open-causes t (grave t i) k) tt (after-open k (grave t i)) (c .if-grave-gt-LAST-GRAVE .taken));
       kept = (refl, refl);
     }
 

@@ -1,5 +1,6 @@
 use mathlib.Core.Path.{refl}
-use Prim.Native.Nat.{ℕ, _<_}
+use mathlib.Core.List.{[]}
+use Prim.Native.Nat.{_<_}
 use native.Mathlib.Omega.{arith}
 use lib.ListN.{length}
 use Rattle.refusal.specs.Numbers.{number-of}
@@ -21,8 +22,8 @@ returns-in-Err g c =
     let there : i < length rs = omega arith in
     record {
       done = finished S S (records rs) _ (to-void i n) _ refl
-          (turned-away rs i (c .index-self-grave .result) there (λ (_ : ℕ) (q : Record). void-causes q n) (λ (q : Record). tt)
-          (after-void n) (λ q. refl) (number-of (c .in-Err .refusal)) (c .in-Err .ensures tt));
+          (turned-away rs i (c .index-self-grave .result) there (λ (q : Record). void-causes q n) (λ (q : Record). tt)
+          (after-void n) [] tt (number-of (c .in-Err .refusal)) (c .in-Err .ensures tt));
       kept = (refl, refl);
     }
 
@@ -35,7 +36,7 @@ returns-in-Ok g c =
     let there : i < length rs = omega arith in
     record {
       done = finished S S (records rs) _ (to-void i n) _ refl
-          (went-through rs i (c .index-self-grave .result) there (λ (_ : ℕ) (q : Record). void-causes q n) (λ (q : Record). tt)
-          (after-void n) (λ q. refl) (c .in-Ok .after) (c .in-Ok .ensures tt));
+          (went-through rs i (c .index-self-grave .result) there (λ (q : Record). void-causes q n) (λ (q : Record). tt)
+          (after-void n) [] tt (c .in-Ok .after) (c .in-Ok .ensures tt));
       kept = (refl, refl);
     }

@@ -42,7 +42,8 @@ impl List {
 struct Tally {
     seals: usize,
     checks: usize,
-    refused: usize,
+    /// How often each answer came, by its number.
+    answers: [usize; 17],
 }
 
 fn differ(call: &str, q: &Question, what: &str) -> ! {
@@ -69,7 +70,7 @@ impl Tally {
             differ("seal", q, "the ring afterwards");
         }
         self.seals += 1;
-        self.refused += usize::from(answer != 0);
+        self.answers[usize::from(answer)] += 1;
     }
 
     fn check(&mut self, q: &Question, seal: u64) {
@@ -83,7 +84,7 @@ impl Tally {
             differ("check", q, "the ring afterwards");
         }
         self.checks += 1;
-        self.refused += usize::from(answer != 0);
+        self.answers[usize::from(answer)] += 1;
     }
 
     /// The seal, and checks of the right seal, of one with a bit turned over, and of any number.
@@ -140,5 +141,7 @@ fn main() {
         let q = question(&mut chance, field, cipher, length, ring);
         tally.all(&q, &mut chance);
     }
-    println!("compare-seals: {} seals and {} checks agree, {} of them refusals", tally.seals, tally.checks, tally.refused);
+    let refusals = (1..17).filter(|&n| tally.answers[n] > 0);
+    let refusals: Vec<String> = refusals.map(|n| format!("{} times {n:02}", tally.answers[n])).collect();
+    println!("compare-seals: {} seals and {} checks agree, refused {}", tally.seals, tally.checks, refusals.join(", "));
 }

@@ -77,5 +77,5 @@ pub fn hash(field: Field, ring: &[u64], text: &[u8]) -> Result<u64, u8> {
             x = field.product(field.sum(x, u64::from_le_bytes(filled)), subkey);
         }
     }
-    Ok(field.sum(x, text.len() as u64))
+    Ok(field.element(field.sum(x, text.len() as u64)))
 }

@@ -10,7 +10,7 @@ fn state(words: [u32; 4]) -> u128 {
     words.iter().fold(0, |s, &w| s << 32 | u128::from(w))
 }
 
-/// A linear step: exclusive or of a word with its neighbours eight bits away on both sides.
+/// A word's bits, each with the ones eight places away on both sides added in.
 fn mixed(w: u32) -> u32 {
     w ^ w.rotate_left(8) ^ w.rotate_left(24)
 }

@@ -7,6 +7,8 @@
 
 use std::io::{self, Read, Write};
 
+mod chance;
+mod hash;
 mod listing;
 mod records;
 

@@ -1,5 +1,7 @@
 //! Records to try: from a readable file, and by chance.
 
+use crate::chance::Chance;
+
 /// Hexadecimal digits stand for bytes, `00*7168` for a byte repeated, and `#` begins a comment.
 pub fn assemble(text: &str) -> Vec<u8> {
     let mut bytes = Vec::new();
@@ -17,27 +19,6 @@ pub fn assemble(text: &str) -> Vec<u8> {
         }
     }
     bytes
-}
-
-/// A generator of numbers (splitmix64).
-struct Chance(u64);
-
-impl Chance {
-    fn next(&mut self) -> u64 {
-        self.0 = self.0.wrapping_add(0x9e37_79b9_7f4a_7c15);
-        let mut z = self.0;
-        z = (z ^ (z >> 30)).wrapping_mul(0xbf58_476d_1ce4_e5b9);
-        z = (z ^ (z >> 27)).wrapping_mul(0x94d0_49bb_1331_11eb);
-        z ^ (z >> 31)
-    }
-
-    fn below(&mut self, n: u64) -> u64 {
-        self.next() % n
-    }
-
-    fn one_of<T: Copy>(&mut self, choices: &[T]) -> T {
-        choices[self.below(choices.len() as u64) as usize]
-    }
 }
 
 fn subkey(chance: &mut Chance) -> u64 {

@@ -119,3 +119,6 @@ pub fn write_sheet(
     put(buffer, FIXED_BYTES, text);
     Ok(size)
 }
+
+#[cfg(test)]
+mod tests;

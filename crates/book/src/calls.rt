@@ -115,6 +115,19 @@ impl<F: Field, C: Cipher> Book<F, C> {
         }
     }
 
+    // The end of a book: its field and its cipher are the caller's again.
+    pub fn end(self) -> (F, C)
+        ensures { λ r. ⌜ (r .0 ≡ self .field) × (r .1 ≡ self .cipher) ⌝ }
+    {
+        let Book {
+            field,
+            cipher,
+            graves,
+        } = self;
+        let Graves { table: _ } = graves;
+        (field, cipher)
+    }
+
     // Hands out the grave's next draw.
     pub fn draw(&mut self, grave: u16) -> Result<Draw, Refusal>
         ensures done { λ r. ⌜ Done (sealing (F·Field .model) (C·Cipher .function (now (self .entry) .cipher))) (records (now (self .entry) .graves .table)) (to-draw grave) (drawn-told r) (sealing (F·Field .model) (C·Cipher .function (now (self .exit) .cipher))) (records (now (self .exit) .graves .table)) ⌝ }

@@ -1,8 +1,10 @@
 // A clerk's desk: a book, and the draws that it has handed out and that are neither sealed nor voided.
 ghost use mathlib.Core.Path.{_≡_};
 ghost use Prim.Native.Nat.{_<_};
-ghost use lib.ListN.{length};
+ghost use lib.ListN.{length, getD};
 ghost use Rattle.std.specs.Slices.{found};
+ghost use Rattle.book.specs.declared.calls.Draw.{Draw};
+ghost use Rattle.day.specs.Desks.{Is, plain-answer};
 use crate::answer::Answer;
 use crate::line::Call;
 use book::Book;
@@ -22,7 +24,7 @@ pub struct Desk<F, C> {
 
 // Where the grave's draw of this number lies.
 fn place_of(hand: &[Draw], grave: u16, number: u64) -> Option<usize>
-    ensures { λ r. ⌜ found r (λ i. i < length (now (hand .entry))) ⌝ }
+    ensures { λ r. ⌜ found r (λ i. (i < length (now (hand .entry))) × ((d : Draw) → Is grave number (getD (now (hand .entry)) i d))) ⌝ }
 {
     for (i, draw) in hand.iter().enumerate() {
         if u16::from(draw.grave()) == grave && draw.number() == number {
@@ -32,7 +34,9 @@ fn place_of(hand: &[Draw], grave: u16, number: u64) -> Option<usize>
     None
 }
 
-fn plain(told: Result<(), Refusal>) -> Answer {
+fn plain(told: Result<(), Refusal>) -> Answer
+    ensures { λ r. ⌜ r ≡ plain-answer told ⌝ }
+{
     match told {
         Ok(()) => Answer::Done,
         Err(refusal) => Answer::Refused(refusal),
@@ -48,7 +52,9 @@ impl<F: Field, C: Cipher> Desk<F, C> {
     }
 
     // Takes the draw out of the hand, if it is there.
-    fn take(&mut self, grave: u16, number: u64) -> Option<Draw> {
+    fn take(&mut self, grave: u16, number: u64) -> Option<Draw>
+        ensures { λ r. ⌜ found r (λ d. Is grave number d) ⌝ }
+    {
         let place = place_of(self.hand.as_slice(), grave, number)?;
         Some(self.hand.remove(place))
     }

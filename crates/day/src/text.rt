@@ -1,6 +1,8 @@
 // The words of a line, and the texts in it.
 ghost use mathlib.Core.Path.{_≡_};
-ghost use Rattle.day.specs.Digits.{digit-value};
+ghost use Prim.Native.Nat.{_<_};
+ghost use Rattle.std.specs.Slices.{found};
+ghost use Rattle.day.specs.Digits.{digit-value, pair-value};
 use crate::reason::Reason;
 use std::alloc::AllocError;
 use std::alloc::Global;
@@ -46,7 +48,8 @@ pub fn take_word(rest: &str) -> Result<(&str, &str), Reason> {
 
 // The value of a hexadecimal digit.
 fn hex_digit(byte: u8) -> Option<u8>
-    ensures { λ r. ⌜ r ≡ digit-value byte ⌝ }
+    ensures value { λ r. ⌜ r ≡ digit-value byte ⌝ }
+    ensures below { λ r. ⌜ found r (λ d. d < 16) ⌝ }
 {
     match byte {
         b'0'..=b'9' => Some(byte - b'0'),
@@ -56,18 +59,26 @@ fn hex_digit(byte: u8) -> Option<u8>
     }
 }
 
-fn byte_of(pair: &[u8]) -> Option<u8> {
-    let [high, low] = pair else {
+fn byte_of(high: u8, low: u8) -> Option<u8>
+    ensures { λ r. ⌜ r ≡ pair-value high low ⌝ }
+{
+    let Some(high) = hex_digit(high) else {
         return None;
     };
-    Some((hex_digit(*high)? << 4) | hex_digit(*low)?)
+    let Some(low) = hex_digit(low) else {
+        return None;
+    };
+    Some(16 * high + low)
 }
 
 // The bytes that pairs of digits stand for.
 fn hex_bytes(heap: Global, digits: &[u8]) -> Result<Vec<u8>, Fault> {
     let mut bytes = Vec::new(heap);
     for pair in digits.chunks(2) {
-        let Some(byte) = byte_of(pair) else {
+        let [high, low] = pair else {
+            return Err(Fault::NotACall(Reason::NotAText));
+        };
+        let Some(byte) = byte_of(*high, *low) else {
             return Err(Fault::NotACall(Reason::NotAText));
         };
         bytes.push(byte)?;

@@ -1,5 +1,7 @@
 // B63: polynomials in z over the field of two elements, modulo z^63 + z + 1. Bit i of a number is the coefficient of
 // z^i. No branch and no index depends on an operand.
+#![tactic(auto)]
+
 ghost use Rattle.std.specs.Prelude.{◌≡◌, ◌*◌, ◌/◌, ◌%◌, ◌^◌, ◌<◌};
 ghost use Rattle.b63.specs.Binary.{b63, by_z_power, means63, times63, Remainder};
 ghost use Rattle.std.proofs.Common.{mod-lt, mod-eq_of_lt, lit<, lit≤};

@@ -1,4 +1,6 @@
 // Ciphers for tests: one whose every answer is zero, and one that counts the questions put to the cipher below it.
+#![tactic(auto)]
+
 ghost use Rattle.std.specs.Prelude.{◌≡◌};
 ghost use Rattle.bench_ciphers.specs.Zero.{zero_block};
 ghost use Rattle.bench_ciphers.specs.Counted.{one_more};

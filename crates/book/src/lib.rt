@@ -1,4 +1,6 @@
 // The seal book: the register of graves, its calls, and its promise over every run of them.
+#![tactic(auto)]
+
 mod calls;
 
 pub use calls::{Account, Book, Draw, Returned};

@@ -1,4 +1,6 @@
 // Runs an office's day: a call for each line of standard input, and its answer for each line of standard output.
+#![tactic(auto)]
+
 use anyhow::anyhow;
 use day::Day;
 use libc::isatty;

@@ -1,4 +1,6 @@
 // How seldom two different texts share a hash, over any field.
+#![tactic(auto)]
+
 ghost use Rattle.std.specs.Prelude.{◌≡◌};
 ghost use Rattle.bound.specs.Bound.{OnlyZeroMakesZero, chunks, share, ShareAtMost, CollisionBound};
 

@@ -1,5 +1,7 @@
 // The cipher Chaskey: the key, twelve rounds of sums, rotations and differences, and the key again. No branch and no
 // index depends on the key or the block.
+#![tactic(auto)]
+
 ghost use Rattle.std.specs.Prelude.{◌≡◌, ◌++◌};
 ghost use Rattle.cipher.specs.Bytes.{highest_first, number_at, pair_bytes};
 ghost use Rattle.cipher.specs.Pairs.{block_of};

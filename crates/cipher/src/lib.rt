@@ -1,4 +1,6 @@
 // What a cipher is to the seal and to all that is built on it.
+#![tactic(auto)]
+
 ghost use Rattle.std.specs.Prelude.{◌≡◌};
 ghost use Rattle.cipher.specs.declared.Block.{Block};
 ghost use Rattle.cipher.specs.declared.Key.{Key};

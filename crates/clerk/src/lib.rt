@@ -1,4 +1,6 @@
 // A client of the book: it draws, seals, and voids the draw that comes back.
+#![tactic(auto)]
+
 ghost use Rattle.std.specs.Prelude.{◌≡◌, length, replicate, IfOk, IfErr, OnOk};
 ghost use Rattle.refusal.specs.Numbers.{number_of};
 ghost use Rattle.seal.specs.Seals.{sealing};

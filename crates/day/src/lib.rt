@@ -1,4 +1,6 @@
 // An office's day: the lines of a script, each run as a call on a book, and their answers.
+#![tactic(auto)]
+
 ghost use Rattle.std.specs.Prelude.{◌≡◌, min, Some, None, MatchResult};
 ghost use Rattle.script.specs.Lines.{asked, says};
 ghost use Rattle.day.specs.Offices.{desk_of, new_desk, Ran};

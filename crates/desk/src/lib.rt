@@ -1,4 +1,6 @@
 // A clerk's desk: a book, and the draws that it has handed out and that are neither sealed nor voided.
+#![tactic(auto)]
+
 ghost use Rattle.std.specs.Prelude.{◌≡◌, ◌<◌, [], reverse, length, replicate, vec_len, vec_capacity, MatchOption, MatchResult};
 ghost use Rattle.seal.specs.Seals.{sealing};
 ghost use Rattle.promise.specs.History.{History, to_open, to_check, to_clear, to_close};

@@ -1,4 +1,6 @@
 // What a finite field is to the hash and to all that is built on it.
+#![tactic(auto)]
+
 ghost use Rattle.std.specs.Prelude.{◌≡◌};
 ghost use Rattle.field.specs.Model.{Model};
 ghost use Rattle.field.specs.Laws.{FieldLaws};

@@ -1,4 +1,6 @@
 // The fields that a number can name, and the hash over the one that is named.
+#![tactic(auto)]
+
 ghost use Rattle.std.specs.Prelude.{◌≡◌};
 ghost use Rattle.refusal.specs.Outcomes.{told};
 ghost use Rattle.hash.specs.Hash.{hash_outcome};

@@ -1,7 +1,7 @@
 -- A text, as the hash cuts it: blocks of seven bytes, and chunks of 1024 blocks. Assumes nothing.
 use Rattle.std.specs.Prelude.{ℕ, ◌+◌, ◌-◌, ◌*◌, ◌/◌, List, length, take, drop}
-pub use Rattle.bytes.specs.Limits.{longest_text}
-pub use Rattle.bytes.specs.Numbers.{number}
+pub use Rattle.byte_rows.specs.Limits.{longest_text}
+pub use Rattle.byte_rows.specs.Numbers.{number}
 
 abbrev pub block_bytes : ℕ
 block_bytes = 7

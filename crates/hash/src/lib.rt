@@ -1,11 +1,13 @@
 // The polynomial hash of a text under a ring of subkeys, over any field.
+#![tactic(auto)]
+
 ghost use Rattle.std.specs.Prelude.{◌≡◌, ◌^◌, ◌<◌, ◌≤◌, map, length, IfOk, slice_index};
 ghost use Rattle.refusal.specs.Outcomes.{gives, told, decided};
 ghost use Rattle.hash.specs.Texts.{block_bytes, number, block_count, chunk_count};
 ghost use Rattle.hash.specs.Steps.{group_bytes, through, Powers};
 ghost use Rattle.hash.specs.Hash.{after, some_from, text_causes, hash_outcome, working_outcome};
 
-pub use bytes::LONGEST_TEXT;
+pub use byte_rows::LONGEST_TEXT;
 use field::Field;
 use refusal::Refusal;
 

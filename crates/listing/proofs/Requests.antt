@@ -6,9 +6,9 @@ use Rattle.std.proofs.lemmas.Bool.Decides.{nat_tests, leb_tells}
 use Rattle.refusal.specs.Outcomes.{Outcome}
 use Rattle.refusal.proofs.Decided.{undecided}
 use Rattle.field.specs.Model.{Model}
-use Rattle.bytes.specs.Numbers.{number}
-use Rattle.bytes.proofs.Places.{number_by_place}
-use Rattle.bytes.proofs.Fronts.{Taken}
+use Rattle.byte_rows.specs.Numbers.{number}
+use Rattle.byte_rows.proofs.Places.{number_by_place}
+use Rattle.byte_rows.proofs.Fronts.{Taken}
 use Rattle.hash.specs.Hash.{hash_outcome}
 use Rattle.fields.specs.Fields.{field_called, hash_over_field}
 use Rattle.listing.specs.Names.{subkeys_read}

@@ -2,8 +2,8 @@
 use Rattle.std.proofs.Common.{◌≡◌, ℕ, zero, suc, ◌+◌, ◌*◌, ◌<◌, ◌≤◌, true, false, ltb, List, [], ◌∷◌, ◌++◌, length, take, drop, set, Some, None, sym, refl, ap, ◌∙◌, add-one, arith}
 use Rattle.std.proofs.lemmas.List.{length-drop, drop-drop, take_more_set, take_all}
 use Rattle.std.proofs.lemmas.Bool.{lt-ltb, le-ltb}
-use Rattle.bytes.specs.Numbers.{number}
-use Rattle.bytes.proofs.Fronts.{Taken}
+use Rattle.byte_rows.specs.Numbers.{number}
+use Rattle.byte_rows.proofs.Fronts.{Taken}
 use Rattle.listing.specs.Requests.{subkeys}
 use Rattle.listing.specs.Names.{subkeys_read}
 

@@ -1,7 +1,7 @@
 -- A record of kind 2 asks for a hash: a field byte, a count of subkeys, the subkeys, and the text. Assumes nothing.
 use Rattle.std.specs.Prelude.{ℕ, zero, suc, ◌+◌, ◌*◌, Bool, cond, not, ◌||◌, ltb, List, [], ◌∷◌, length, take, drop, is_some, ◌==◌, nat_lt, slice_index}
 use Rattle.refusal.specs.Outcomes.{Cause, ◌when◌, Outcome, decided}
-use Rattle.bytes.specs.Numbers.{number}
+use Rattle.byte_rows.specs.Numbers.{number}
 use Rattle.fields.specs.Fields.{field_called, hash_over_field}
 
 abbrev pub hash_kind : ℕ

@@ -5,7 +5,7 @@ ghost use Rattle.listing.specs.Requests.{subkeys, request_outcome};
 ghost use Rattle.listing.specs.Lines.{seen};
 ghost use Rattle.listing.specs.Names.{subkeys_read};
 
-use bytes::{take_u8, take_u64};
+use byte_rows::{take_u8, take_u64};
 use fields::{field_named, hash_over};
 use refusal::Refusal;
 

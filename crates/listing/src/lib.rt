@@ -1,4 +1,6 @@
 // The listing of hash records: a line for each record of an input.
+#![tactic(auto)]
+
 ghost use Rattle.std.specs.Prelude.{◌≡◌, ◌<◌, ◌++◌, IfOk, string_bytes, OnOk};
 ghost use Rattle.refusal.specs.Outcomes.{told};
 ghost use Rattle.listing.specs.Lines.{outcome_of, next_of, seen, hex, hex_digit, line_of, listing_of, LineByLine};

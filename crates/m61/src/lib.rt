@@ -1,4 +1,6 @@
 // M61: whole numbers modulo the prime 2^61 - 1. Since 2^61 means 1, the bits from 61 up are added back at the bottom.
+#![tactic(auto)]
+
 ghost use Rattle.std.specs.Prelude.{◌≡◌, ◌+◌, ◌*◌, ◌^◌, ◌≤◌};
 ghost use Rattle.field.specs.WeightedSums.{weighted_sum};
 ghost use Rattle.m61.specs.Mersenne.{m61, means61, prime};

@@ -1,5 +1,7 @@
 // The cipher Noekeon in its direct-key mode, its steps under their published names. No branch and no index depends on
 // the key or the block.
+#![tactic(auto)]
+
 ghost use Rattle.std.specs.Prelude.{◌≡◌, ◌+◌, ◌*◌, ◌/◌, ◌%◌, ◌^◌};
 ghost use Rattle.noekeon.specs.Noekeon.{words_of, block_of, with_constant, round_of, enciphered_of, noekeon};
 ghost use Rattle.noekeon.specs.Steps.{spread_of, theta_of, pi1_of, pi2_of, gamma_of};

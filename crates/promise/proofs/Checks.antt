@@ -40,7 +40,7 @@ module _ (S : Sealing) (L : SealingLaws S) (k : Key) (s : Sheet) where
         | inr n ↦ inr (λ m. n m.0)
       ]
 
-  asked_meets : (r : Sheet) → Among (S.own_Block k s.draw s.text) (S.blocks k r.draw r.text) → Meets r
+  asked_meets : (r : Sheet) → Among (S.own_block k s.draw s.text) (S.blocks k r.draw r.text) → Meets r
   asked_meets r asked =
       let own = L.own_apart k s.draw r.draw s.text r.text asked in
       let alike = L.own_alike k s.draw r.draw s.text r.text own in

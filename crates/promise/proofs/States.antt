@@ -51,8 +51,8 @@ one_false_seal_more (Some k) false n f l = absurd (true≢false f)
 
 pub cleared_state : (o : Option Key) (u : Bool) → Used o u → Open 0 ≡ state_of o u 0
 cleared_state o u w =
-    ap (λ (u : Bool). state_of (Some (key_or_none o)) u 0) (sym w.in-use-now)
-    ∙ ap (λ (o : Option Key). state_of o u 0) (sym w.its-key)
+    ap (λ (u : Bool). state_of (Some (key_or_none o)) u 0) (sym w.in_use_now)
+    ∙ ap (λ (o : Option Key). state_of o u 0) (sym w.its_key)
 
 pub closed_state : (o : Option Key) (u : Bool) (n : ℕ) → Used o u → Closed ≡ state_of o false n
-closed_state o u n w = ap (λ (o : Option Key). state_of o false n) (sym w.its-key)
+closed_state o u n w = ap (λ (o : Option Key). state_of o false n) (sym w.its_key)

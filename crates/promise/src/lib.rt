@@ -1,4 +1,6 @@
 // The promise of the seal book over every run, whatever calls are made.
+#![tactic(auto)]
+
 ghost use Rattle.std.specs.Prelude.{◌≡◌, ℕ, ◌<◌, List, length};
 ghost use Rattle.cipher.specs.declared.Block.{Block};
 ghost use Rattle.cipher.specs.declared.Key.{Key};

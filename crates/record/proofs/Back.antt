@@ -3,8 +3,8 @@ use Rattle.std.proofs.Common.{◌≡◌, ℕ, ◌+◌, ◌-◌, ◌^◌, ◌<◌
 use Rattle.std.proofs.ByRecursion.{All-take, All-drop}
 use Rattle.std.proofs.lemmas.List.{length-append, length-drop, length-take-le, take_at, drop_at, drop-drop, take-append-drop}
 use Rattle.std.proofs.lemmas.Bool.{le-ltb, ltb-false, or_parts}
-use Rattle.bytes.specs.Numbers.{number, bytes_of}
-use Rattle.bytes.proofs.Back.{Bytes, number_bytes_of, front_back}
+use Rattle.byte_rows.specs.Numbers.{number, bytes_of}
+use Rattle.byte_rows.proofs.Back.{Bytes, number_bytes_of, front_back}
 use Rattle.record.specs.Records.{Parts, stated, front_parts, record_of, record_bytes}
 
 pub read_back : (kind : ℕ) (body rest : List ℕ) → kind < 256 ^ 2 → 2 + length body < 256 ^ 4

@@ -2,8 +2,8 @@
 use Rattle.std.proofs.Common.{◌≡◌, ℕ, ◌+◌, ◌-◌, ◌≤◌, false, ◌||◌, ltb, List, length, take, drop, Some, sym, ap, ◌∙◌, arith}
 use Rattle.std.proofs.lemmas.List.{take_rest, drop-drop}
 use Rattle.std.proofs.lemmas.Bool.{le-ltb}
-use Rattle.bytes.specs.Numbers.{number}
-use Rattle.bytes.proofs.Places.{by_place, number_by_place}
+use Rattle.byte_rows.specs.Numbers.{number}
+use Rattle.byte_rows.proofs.Places.{by_place, number_by_place}
 use Rattle.record.specs.Records.{Parts, stated, record_of}
 
 pub framed : (input : List ℕ) (kind len : ℕ) (body rest : List ℕ) → 6 ≤ length input

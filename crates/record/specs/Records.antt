@@ -1,7 +1,7 @@
 -- A record: a length of four bytes, which counts what follows it, a kind of two bytes, and the kind's own body.
 -- Assumes nothing.
 use Rattle.std.specs.Prelude.{ℕ, ◌+◌, ◌-◌, cond, ◌||◌, List, ◌++◌, length, take, drop, Some, None, Option, nat_lt}
-use Rattle.bytes.specs.Numbers.{number, bytes_of}
+use Rattle.byte_rows.specs.Numbers.{number, bytes_of}
 use Rattle.record.specs.declared.Record.{Record}
 
 pub record Parts : Type 0 where

@@ -1,4 +1,6 @@
 // Records: the frame that every kind shares.
+#![tactic(auto)]
+
 ghost use Rattle.std.specs.Prelude.{◌≡◌};
 ghost use Rattle.record.specs.Records.{record_of, parts};
 

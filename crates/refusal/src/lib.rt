@@ -1,4 +1,6 @@
 // Why a call refuses: one list for the whole library, each case with a number that never changes.
+#![tactic(auto)]
+
 ghost use Rattle.std.specs.Prelude.{◌≡◌, Some};
 ghost use Rattle.refusal.specs.Numbers.{number_of, printed};
 

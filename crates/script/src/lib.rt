@@ -1,4 +1,6 @@
 // What the lines of a day's script say: their words, their texts, and the calls that they name.
+#![tactic(auto)]
+
 mod fault;
 mod line;
 mod names;

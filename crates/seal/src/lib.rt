@@ -1,4 +1,6 @@
 // The seal of a text under a key and a draw, over any field and any cipher.
+#![tactic(auto)]
+
 ghost use Rattle.std.specs.Prelude.{◌≡◌, ◌^◌, ◌<◌, ◌≤◌, length, replicate, IfOk};
 ghost use Rattle.refusal.specs.Outcomes.{gives, told, decided};
 ghost use Rattle.hash.specs.Hash.{text_causes};

@@ -1,4 +1,6 @@
 // Worked examples of the hash, held against its definition by a proof, and against the compiled code by a call.
+#![tactic(auto)]
+
 ghost use Rattle.std.specs.Prelude.{◌≡◌, true};
 ghost use Rattle.hash.specs.Hash.{hash_outcome};
 ghost use Rattle.selftest.specs.Rows.{is_value, RowsHold};

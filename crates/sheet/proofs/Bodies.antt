@@ -5,9 +5,9 @@ use Rattle.std.proofs.lemmas.List.{length-drop, drop-drop}
 use Rattle.std.proofs.lemmas.Bool.{lt-ltb, le-ltb}
 use Rattle.refusal.specs.Outcomes.{Outcome, gives, refuses, mapped, decided}
 use Rattle.refusal.proofs.Decided.{mapped_decided}
-use Rattle.bytes.specs.Numbers.{number, bytes_of}
-use Rattle.bytes.proofs.Back.{Bytes, number_bytes_of, front_back}
-use Rattle.bytes.proofs.Fronts.{Taken}
+use Rattle.byte_rows.specs.Numbers.{number, bytes_of}
+use Rattle.byte_rows.proofs.Back.{Bytes, number_bytes_of, front_back}
+use Rattle.byte_rows.proofs.Fronts.{Taken}
 use Rattle.sheet.specs.Sheets.{SealedSheet, sheet_body, sheet_in, limit_causes, body_causes}
 use Rattle.sheet.specs.Names.{sealed}
 

@@ -5,7 +5,7 @@ use Rattle.std.proofs.lemmas.List.{length-append, take_at, drop-drop}
 use Rattle.std.proofs.lemmas.Bool.{le-ltb}
 use Rattle.refusal.specs.Outcomes.{gives}
 use Rattle.refusal.proofs.Decided.{undecided}
-use Rattle.bytes.specs.Limits.{longest_text}
+use Rattle.byte_rows.specs.Limits.{longest_text}
 use Rattle.sheet.specs.Sheets.{highest_grave, sheet_bytes, read_outcome}
 use Rattle.sheet.specs.Names.{sealed}
 use Rattle.sheet.specs.Writing.{write_causes, write_outcome, laid, buffer_after, put_at, ReadsBack}

@@ -3,8 +3,8 @@ use Rattle.std.proofs.Common.{◌≡◌, ℕ, ◌^◌, ◌<◌, ◌≤◌, Bool,
 use Rattle.std.proofs.lemmas.Bool.{le-ltb, eq-eqb, eqb-true, ltb-false, not-false}
 use Rattle.refusal.specs.Outcomes.{Outcome, gives, refuses, mapped, decided}
 use Rattle.refusal.proofs.Decided.{undecided, given, mapped_decided}
-use Rattle.bytes.specs.Limits.{longest_text}
-use Rattle.bytes.proofs.Back.{Bytes, number_bytes_of}
+use Rattle.byte_rows.specs.Limits.{longest_text}
+use Rattle.byte_rows.proofs.Back.{Bytes, number_bytes_of}
 use Rattle.record.specs.Records.{Parts, record_of, record_bytes}
 use Rattle.record.proofs.Back.{read_back, exact, body_bytes}
 use Rattle.sheet.specs.Sheets.{

@@ -1,8 +1,8 @@
 -- A sealed sheet, its record of kind 1, and what a reader makes of an input. Assumes nothing.
 use Rattle.std.specs.Prelude.{ℕ, not, List, [], ◌∷◌, ◌++◌, length, take, drop, Some, None, Option, ◌==◌, nat_lt}
 use Rattle.refusal.specs.Outcomes.{Cause, ◌when◌, Outcome, gives, refuses, decided}
-use Rattle.bytes.specs.Limits.{longest_text}
-use Rattle.bytes.specs.Numbers.{number, bytes_of}
+use Rattle.byte_rows.specs.Limits.{longest_text}
+use Rattle.byte_rows.specs.Numbers.{number, bytes_of}
 use Rattle.record.specs.Records.{Parts, record_of, record_bytes}
 
 pub record SealedSheet : Type 0 where

@@ -1,11 +1,13 @@
 // The sealed sheet on a chip: a record of kind 1, read and written.
+#![tactic(auto)]
+
 ghost use Rattle.std.specs.Prelude.{◌≡◌, ◌+◌, ◌≤◌, length, take, IfOk};
 ghost use Rattle.refusal.specs.Outcomes.{told, mapped, gives, decided};
 ghost use Rattle.sheet.specs.Sheets.{sheet_in, limit_causes, body_causes, read_outcome};
 ghost use Rattle.sheet.specs.Names.{sealed, sheet_seen, all_seen};
 ghost use Rattle.sheet.specs.Writing.{write_outcome, buffer_after, put_at, ReadsBack, WritesBack};
 
-use bytes::{LONGEST_TEXT, take_u16, take_u64};
+use byte_rows::{LONGEST_TEXT, take_u16, take_u64};
 use record::{Record, read_record};
 use refusal::Refusal;
 

@@ -1,4 +1,6 @@
 // Reads hash records from standard input, and prints the line of each.
+#![tactic(auto)]
+
 use anyhow::anyhow;
 use libc::isatty;
 use listing::listing;

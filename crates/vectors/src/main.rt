@@ -1,5 +1,7 @@
 // Prints what the ciphers answer to the published test vectors. Then it answers standard input: to each line with a
 // cipher's name, a key and a block, both in hexadecimal, the enciphered block.
+#![tactic(auto)]
+
 ghost use Rattle.std.specs.Prelude.{◌≡◌};
 ghost use Rattle.vectors.specs.Asked.{asked_of};
 ghost use Rattle.vectors.specs.Published.{Published};

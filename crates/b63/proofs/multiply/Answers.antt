@@ -9,8 +9,8 @@ use Rattle.b63.proofs.Window.{rows_spare}
 use Rattle.b63.proofs.Fours.{four_rows, four_more}
 use Rattle.b63.proofs.multiply.Goals as goal
 
-pub by-power-requires : goal.by-power-requires
-by-power-requires c = (lit< tt, rw c.loop-i.invariant (rows_lt _ _ _ c.requires.1))
+pub by_power-requires : goal.by_power-requires
+by_power-requires c = (lit< tt, rw c.loop-i.invariant (rows_lt _ _ _ c.requires.1))
 
 pub loop-i-init : goal.loop-i-init
 unfolding rows
@@ -22,9 +22,9 @@ loop-i-preserved c =
     let y : ℕ = c.args.y in
     let i : ℕ = c.loop-i.i in
     four_more i x y c.loop-i-test.true c.loop-i.auto.i c.loop-i.invariant
-    c.by-power.ensures
+    c.by_power.ensures
     (four_rows (x / 2 ^ (4 * (i - 1))) y
-    c.by-power-yz.ensures c.by-power-yz2.ensures c.by-power-yz3.ensures
+    c.by_power-yz.ensures c.by_power-yz2.ensures c.by_power-yz3.ensures
     c.row.ensures c.row-in-loop-i.ensures c.row-in-loop-i-2.ensures c.row-in-loop-i-3.ensures)
 
 pub returns : goal.returns

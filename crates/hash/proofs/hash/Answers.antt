@@ -10,9 +10,9 @@ returns g c =
     let m = g.F.Field.model in
     let ring = c.args.ring.now in
     let text = c.args.text.now in
-    let none = absent (text_causes text (length ring)) tt c.in-ok-admit.ensures in
-    let elements = c.if-too-large.ensures in
-    c.hash-by-working.ensures.answer
+    let none = absent (text_causes text (length ring)) tt c.in_ok-admit.ensures in
+    let elements = c.if-too_large.ensures in
+    c.hash_by_working.ensures.answer
     ∙ sym (undecided (text_causes text (length ring)) (gives (hash_of m (map m.means ring) text)) none)
     ∙ ap (λ (ks : List ℕ). gives (hash_of m ks text)) (all_own g.met.F.Field.holds ring elements)
     ∙ undecided (hash_causes m ring text) (gives (hash_of m ring text))

@@ -11,7 +11,7 @@ pub polynomial-x-requires : goal.polynomial-x-requires
 polynomial-x-requires g c =
     let ring = c.args.ring.now in
     let text = c.args.text.now in
-    let none = absent (text_causes text (length ring)) tt c.in-ok-admit.ensures in
+    let none = absent (text_causes text (length ring)) tt c.in_ok-admit.ensures in
     ltb-false (length ring) (chunk_count text) none.1.0
 
 pub returns : goal.returns
@@ -19,7 +19,7 @@ returns g c =
     let m = g.F.Field.model in
     let ring = c.args.ring.now in
     let text = c.args.text.now in
-    let none = absent (text_causes text (length ring)) tt c.in-ok-admit.ensures in
+    let none = absent (text_causes text (length ring)) tt c.in_ok-admit.ensures in
     let short = ltb-false longest_text (length text) none.0 in
     let own = small_own g.met.F.Field.holds (length text) (omega arith) in
     let value : c.reduce.result ≡ hash_of m (map m.means ring) text =

@@ -13,8 +13,8 @@ bounds-ring-c g c =
     let here = served g.met.F.Field.holds c.loop-c.invariant.1 step.0.1.2 c.requires in
     omega (arith, step.1)
 
-pub offset-bounds-ring-c : goal.offset-bounds-ring-c
-offset-bounds-ring-c g c =
+pub offset_bounds-ring-c : goal.offset_bounds-ring-c
+offset_bounds-ring-c g c =
     let step = c.in-Some.ensures.steps in
     let here = served g.met.F.Field.holds c.loop-c.invariant.1 step.0.1.2 c.requires in
     let same = step.1 in
@@ -27,7 +27,7 @@ loop-c-preserved g c =
       turned g.met.F.Field.holds c.args.ring.now c.args.text.now c.in-Some.chunk.now
           (chunks_rest (enumerate_source c.next.new.self)) c.loop-c.invariant.1 c.requires
           step.0.1.0 step.0.1.1 step.0.1.2 step.1 step.2 c.loop-c.invariant.0
-          c.through-chunk-x.ensures.element,
+          c.through_chunk-x.ensures.element,
     )
 
 pub returns : goal.returns

@@ -12,8 +12,8 @@ loop-block-init g c =
     let k : ℕ = m.means c.args.subkey in
     (cc, ap (through m k (m.means c.args.start)) (cc))
 
-pub block-number-requires : goal.block-number-requires
-block-number-requires g c = omega (arith, c.in-Some.ensures.steps.1.1, c.loop-block.invariant.0)
+pub block_number-requires : goal.block_number-requires
+block_number-requires g c = omega (arith, c.in-Some.ensures.steps.1.1, c.loop-block.invariant.0)
 
 pub loop-block-preserved : goal.loop-block-preserved
 loop-block-preserved g c =
@@ -22,7 +22,7 @@ loop-block-preserved g c =
     let x : ℕ = m.means c.loop-block.x in
     let piece = c.in-Some.block.now in
     let step = c.in-Some.ensures.steps in
-    let own = small_own g.met.F.Field.holds c.block-number.result c.block-number.ensures.small in
+    let own = small_own g.met.F.Field.holds c.block_number.result c.block_number.ensures.small in
     let short : length piece ≤ block_bytes = omega (arith, step.1.1, c.loop-block.invariant.0) in
     let some : 0 < length piece = omega (arith, step.1.1, step.1.2, c.loop-block.invariant.0) in (
       step.0 ∙ c.loop-block.invariant.0,
@@ -30,7 +30,7 @@ loop-block-preserved g c =
           c.loop-block.invariant.1 step.1.0 step.1.1 c.loop-block.invariant.0
           (c.product-x.ensures.element
           ∙ ap (λ (y : ℕ). m.times y k)
-          (c.sum.ensures.element ∙ ap (m.plus x) (own ∙ c.block-number.ensures.value))
+          (c.sum.ensures.element ∙ ap (m.plus x) (own ∙ c.block_number.ensures.value))
           ∙ sym (through_one m k x piece some short)),
     )
 

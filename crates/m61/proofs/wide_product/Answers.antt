@@ -9,8 +9,8 @@ use Rattle.m61.proofs.wide_product.Goals as goal
 cross : (high low : ℕ) → high ≤ 2 ^ 29 → low ≤ 2 ^ 32 - 1 → high * low ≤ 2 ^ 61 - 2 ^ 29
 cross high low h l = mul-le high low (2 ^ 29) (2 ^ 32 - 1) h l
 
-pub overflow-add-result : goal.overflow-add-result
-overflow-add-result c =
+pub overflow_add-result : goal.overflow_add-result
+overflow_add-result c =
     let ad = cross c.split-a.result.high c.split-c.result.low (omega arith) (omega arith) in
     let cb = cross c.split-c.result.high c.split-a.result.low (omega arith) (omega arith) in
     omega arith

@@ -4,6 +4,6 @@ use Rattle.record.proofs.read_record.Goals as goal
 
 pub returns : goal.returns
 returns c =
-    framed c.args.input.now c.from-le-bytes-kind.result c.from-le-bytes-length.result _ _
+    framed c.args.input.now c.from_le_bytes-kind.result c.from_le_bytes-length.result _ _
     (omega (arith, ltb-false)) (omega arith) (omega arith) (omega arith) (omega arith)
-    c.split-at.ensures.front c.split-at.ensures.back
+    c.split_at.ensures.front c.split_at.ensures.back

@@ -13,19 +13,19 @@ pub returns : goal.returns
 returns g c =
     let m = g.F.Field.model in
     let f = g.C.Cipher.function c.args.cipher.now in
-    let ring = c.write-subkeys.new.ring in
+    let ring = c.write_subkeys.new.ring in
     let text = c.args.text.now in
     let long : length ring ≡ length c.args.ring.now = omega arith in
-    let none = absent (text_causes text (length c.args.ring.now)) tt c.in-ok-admit.ensures in
+    let none = absent (text_causes text (length c.args.ring.now)) tt c.in_ok-admit.ensures in
     let enough = ltb-false (length c.args.ring.now) (chunk_count text) none.1.0 in
-    let filled : Subkeys m f c.args.key (chunk_count text) ring = λ k h. c.write-subkeys.ensures.ring k (omega arith) in
+    let filled : Subkeys m f c.args.key (chunk_count text) ring = λ k h. c.write_subkeys.ensures.ring k (omega arith) in
     record {
       hash =
-          c.hash-by-working.ensures.answer
+          c.hash_by_working.ensures.answer
           ∙ ap₂ (λ (n h : ℕ). decided (text_causes text n) (gives h)) long
           (hash_from_ring g.met.F.Field.holds f c.args.key ring text (omega arith) filled);
       below =
-          IfOk-weaker c.hash-by-working.result (λ h. h < m.size) (λ h. h < 2 ^ 63)
-          (λ h small. omega (arith, g.met.F.Field.holds.few)) c.hash-by-working.ensures.below;
+          IfOk-weaker c.hash_by_working.result (λ h. h < m.size) (λ h. h < 2 ^ 63)
+          (λ h small. omega (arith, g.met.F.Field.holds.few)) c.hash_by_working.ensures.below;
       kept = search rules;
     }

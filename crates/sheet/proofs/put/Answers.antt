@@ -8,5 +8,5 @@ returns c =
     let bytes = c.args.bytes.now in
     let i = c.args.place in
     let up : i ≤ i + length bytes = omega arith in
-    ap (put_mid i ((i + length bytes) - i) old) c.copy-from-slice.ensures.after
+    ap (put_mid i ((i + length bytes) - i) old) c.copy_from_slice.ensures.after
     ∙ ap (λ (behind : List ℕ). take i old ++ (bytes ++ behind)) (Post-is i (i + length bytes) old up)

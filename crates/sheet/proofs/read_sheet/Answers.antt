@@ -9,14 +9,14 @@ use Rattle.sheet.specs.Names.{sheet_seen}
 use Rattle.sheet.proofs.Trips.{body_decides, writes_back}
 use Rattle.sheet.proofs.read_sheet.Goals as goal
 
-pub returns-in-err-sheet : goal.returns-in-err-sheet
-returns-in-err-sheet c =
+pub returns-in_err-sheet : goal.returns-in_err-sheet
+returns-in_err-sheet c =
     let r = c.in-Some.field-0 in
     let frame : Parts = record { kind = r.kind; body = r.body.now; rest = r.rest.now } in
-    let refused = err_from_is_err_and c.from-residual.result c.from-residual.ensures.1 in
-    let n : ℕ = number_of c.in-err-sheet.field-0.0 in
+    let refused = err_from_is_err_and c.from_residual.result c.from_residual.ensures.1 in
+    let n : ℕ = number_of c.in_err-sheet.field-0.0 in
     let answered = body_decides c.args.input.now frame (refuses n) c.in-Some.ensures (omega arith)
-    c.in-err-sheet.ensures in
+    c.in_err-sheet.ensures in
     rw (refused.1, refused.2) record { answer = answered; exact = tt }
 
 pub returns : goal.returns
@@ -24,8 +24,8 @@ returns c =
     let input = c.args.input.now in
     let r = c.in-Some.field-0 in
     let frame : Parts = record { kind = r.kind; body = r.body.now; rest = r.rest.now } in
-    let sheet = sheet_seen c.in-ok-sheet.sheet in
+    let sheet = sheet_seen c.in_ok-sheet.sheet in
     let answered : gives (sheet, frame.rest) ≡ read_outcome input =
-    body_decides input frame (gives sheet) c.in-Some.ensures (omega arith) c.in-ok-sheet.ensures in
-    let small = All-from_get_or (λ b. b < 256) input 0 (λ i _. omega (arith, c.type-inv.input i)) in
+    body_decides input frame (gives sheet) c.in-Some.ensures (omega arith) c.in_ok-sheet.ensures in
+    let small = All-from_get_or (λ b. b < 256) input 0 (λ i _. omega (arith, c.type_inv.input i)) in
     record { answer = answered; exact = writes_back input (sheet, frame.rest) small answered }

@@ -1,6 +1,6 @@
 use Rattle.std.proofs.Common.{◌≡◌, ℕ, ◌-◌, ◌≤◌, List, length, take, refl, ◌∙◌, arith}
 use Rattle.std.proofs.lemmas.List.{length-take}
-use Rattle.bytes.proofs.Fronts.{front_some}
+use Rattle.byte_rows.proofs.Fronts.{front_some}
 use Rattle.listing.proofs.Requests.{opened, answered}
 use Rattle.listing.proofs.answer.answer.Goals as goal
 

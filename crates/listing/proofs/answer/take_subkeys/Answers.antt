@@ -1,6 +1,6 @@
 use Rattle.std.proofs.Common.{length, arith}
 use Rattle.std.proofs.lemmas.Bool.{false≢true}
-use Rattle.bytes.proofs.Fronts.{front_none, front_some}
+use Rattle.byte_rows.proofs.Fronts.{front_none, front_some}
 use Rattle.listing.proofs.Subkeys.{begun, turned, stopped, ended}
 use Rattle.listing.proofs.answer.take_subkeys.Goals as goal
 

@@ -13,18 +13,18 @@ unfolding says
 blank_or s t b skips test =
     ap (λ x. cond x (Ok nothing) (whole (by_name (word_part s)))) (test ∙ ap blank_line skips)
 
-pub returns-then-is-blank : goal.returns-then-is-blank
-returns-then-is-blank c =
-    blank_or c.args.line.now c.skip-white.result.now true c.skip-white.ensures c.if-is-blank.ensures
+pub returns-then-is_blank : goal.returns-then-is_blank
+returns-then-is_blank c =
+    blank_or c.args.line.now c.skip_white.result.now true c.skip_white.ensures c.if-is_blank.ensures
 
-pub returns-in-err-read : goal.returns-in-err-read
-returns-in-err-read c =
-    let p = err_from_is_err_and c.from-residual.result c.from-residual.ensures.1 in
+pub returns-in_err-read : goal.returns-in_err-read
+returns-in_err-read c =
+    let p = err_from_is_err_and c.from_residual.result c.from_residual.ensures.1 in
     let s = c.args.line.now in
     rw (p.1, p.2)
     (handed_on _ (by_name (word_part s)) (says s)
-    (λ w h. ap whole h ∙ blank_or s c.skip-white.result.now false c.skip-white.ensures c.if-is-blank.ensures)
-    c.in-err-read.ensures)
+    (λ w h. ap whole h ∙ blank_or s c.skip_white.result.now false c.skip_white.ensures c.if-is_blank.ensures)
+    c.in_err-read.ensures)
 
 -- and then whether anything is left behind its parts
 rest_or : (s t rest left : List ℕ) (l : Said) (b : Bool) → t ≡ skipped s → false ≡ blank_line t
@@ -35,14 +35,14 @@ rest_or s t rest left l b skips test parts skips_rest empty =
     ∙ ap whole parts
     ∙ blank_or s t false skips test
 
-pub returns-then-not-is-empty : goal.returns-then-not-is-empty
-returns-then-not-is-empty c =
-    rest_or c.args.line.now c.skip-white.result.now c.in-ok-read.rest.now c.skip-white-2.result.now
-    (said c.in-ok-read.read) false c.skip-white.ensures c.if-is-blank.ensures
-    c.in-ok-read.ensures c.skip-white-2.ensures (sym c.is-empty.ensures ∙ c.if-not-is-empty.true)
+pub returns-then-not-is_empty : goal.returns-then-not-is_empty
+returns-then-not-is_empty c =
+    rest_or c.args.line.now c.skip_white.result.now c.in_ok-read.rest.now c.skip_white-2.result.now
+    (said c.in_ok-read.read) false c.skip_white.ensures c.if-is_blank.ensures
+    c.in_ok-read.ensures c.skip_white-2.ensures (sym c.is_empty.ensures ∙ c.if-not-is_empty.true)
 
 pub returns : goal.returns
 returns c =
-    rest_or c.args.line.now c.skip-white.result.now c.in-ok-read.rest.now c.skip-white-2.result.now
-    (said c.in-ok-read.read) true c.skip-white.ensures c.if-is-blank.ensures
-    c.in-ok-read.ensures c.skip-white-2.ensures (sym c.is-empty.ensures ∙ c.if-not-is-empty.false)
+    rest_or c.args.line.now c.skip_white.result.now c.in_ok-read.rest.now c.skip_white-2.result.now
+    (said c.in_ok-read.read) true c.skip_white.ensures c.if-is_blank.ensures
+    c.in_ok-read.ensures c.skip_white-2.ensures (sym c.is_empty.ensures ∙ c.if-not-is_empty.false)

@@ -8,16 +8,16 @@ pub returns-in-Ok : goal.returns-in-Ok
 unfolding places_of
 returns-in-Ok c =
     let n = c.in-Ok.places in
-    sym (ap (λ b. when b n) (le-leb n 64 c.if-places-le-MOST-PLACES.true))
+    sym (ap (λ b. when b n) (le-leb n 64 c.if-places-le-MOST_PLACES.true))
     ∙ ap few (number_ok 64 10 c.args.word.now n c.in-Ok.ensures.value.0)
 
-pub returns-in-default : goal.returns-in-default
+pub returns-in_default : goal.returns-in_default
 unfolding places_of
-returns-in-default c =
+returns-in_default c =
     let n = c.in-Ok.places in
-    sym (ap (λ b. when b n) (lt-leb n 64 c.if-places-le-MOST-PLACES.false))
+    sym (ap (λ b. when b n) (lt-leb n 64 c.if-places-le-MOST_PLACES.false))
     ∙ ap few (number_ok 64 10 c.args.word.now n c.in-Ok.ensures.value.0)
 
-pub returns-in-default·2 : goal.returns-in-default·2
+pub returns-in_default-2 : goal.returns-in_default-2
 unfolding places_of
-returns-in-default·2 c = ap few (number_none 64 10 c.args.word.now c.in-default.ensures.value.0)
+returns-in_default-2 c = ap few (number_none 64 10 c.args.word.now c.in_default.ensures.value.0)

@@ -7,4 +7,4 @@ pub loop-rest-preserved : goal.loop-rest-preserved
 loop-rest-preserved c =
     let up = c.in-len2-up in
     pair_more c.loop-rest.rest.now (vec_items c.loop-rest.bytes) (vec_items c.push.new.self) c.in-Some.byte
-    (pairs c.args.digits.now) (omega (arith, ltb-false, c.in-len2-up)) c.in-Some.ensures c.loop-rest.invariant c.in-ok-push.ensures.items
+    (pairs c.args.digits.now) (omega (arith, ltb-false, c.in-len2-up)) c.in-Some.ensures c.loop-rest.invariant c.in_ok-push.ensures.items

@@ -8,7 +8,7 @@ returns-in-ok-from-slice c =
     let inside = c.in-Some.inside in
     let after = c.in-Some.after in
     let p = split_parts 34 c.args.text.now (Some (inside, after)) c.in-Some.ensures.cases (omega arith) in
-    ap (λ z. Ok (z, after.now)) (c.in-ok-from-slice.ensures.items ∙ c.as-bytes.ensures.value)
+    ap (λ z. Ok (z, after.now)) (c.in_ok-from-slice.ensures.items ∙ c.as_bytes.ensures.value)
     ∙ quoted_is c.args.text.now inside.now after.now p.0 p.1
 
 pub returns-in-None : goal.returns-in-None

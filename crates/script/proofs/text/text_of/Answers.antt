@@ -18,7 +18,7 @@ unfolding text_of
 returns c =
     let w = c.args.word.now in
     let other = differ w (codes "-") (λ e. both_ways c.eq.result c.if-eq.false (c.eq.ensures.1 e)) in
-    let same : bytes_or (pairs c.as-bytes.result.now) ≡ bytes_or (text_of w) =
-    ap bytes_or (ap pairs c.as-bytes.ensures.value ∙ sym (ap (λ b. cond b (Some []) (pairs w)) other)) in
-    heard_as (λ v. vec_items v) c.hex-bytes.result (bytes_or (pairs c.as-bytes.result.now)) (bytes_or (text_of w))
-    same c.hex-bytes.ensures
+    let same : bytes_or (pairs c.as_bytes.result.now) ≡ bytes_or (text_of w) =
+    ap bytes_or (ap pairs c.as_bytes.ensures.value ∙ sym (ap (λ b. cond b (Some []) (pairs w)) other)) in
+    heard_as (λ v. vec_items v) c.hex_bytes.result (bytes_or (pairs c.as_bytes.result.now)) (bytes_or (text_of w))
+    same c.hex_bytes.ensures

@@ -9,7 +9,7 @@ pub loop-i-preserved : goal.loop-i-preserved
 loop-i-preserved c =
     simp add-one
     (c.permuted-v.ensures
-    ∙ ap₂ (λ (v b : ℕ). permuted_number (v ⊕ b)) c.loop-i.invariant c.block-at.ensures)
+    ∙ ap₂ (λ (v b : ℕ). permuted_number (v ⊕ b)) c.loop-i.invariant c.block_at.ensures)
 
 pub returns : goal.returns
 unfolding mac_of
@@ -17,15 +17,15 @@ returns c =
     let message : List ℕ = c.args.message.now in
     let key : ℕ = c.args.key in
     let n : ℕ = (length message - 1) / 16 in
-    let before : c.saturating-sub-before.result / 16 ≡ n = omega arith in
+    let before : c.saturating_sub-before.result / 16 ≡ n = omega arith in
     let all : c.loop-i.i ≡ n = omega arith in
     let state = c.loop-i.invariant ∙ ap (after key message) all in
-    let block = c.block-at-2.ensures ∙ ap (λ (m : ℕ). block_at message (16 * m)) before in
+    let block = c.block_at-2.ensures ∙ ap (λ (m : ℕ). block_at message (16 * m)) before in
     let under = c.subkey.ensures ∙ ap (λ (m : ℕ). subkey_of key (eqb (length message) (16 * m + 16))) before in
-    let key_bytes : c.to-le-bytes.result ≡ lowest_first c.subkey.result = simp div-one c.to-le-bytes.ensures in
-    let block_bytes : c.to-le-bytes-2.result ≡ lowest_first (c.loop-i.v ⊕ c.block-at-2.result) =
-    simp div-one c.to-le-bytes-2.ensures in
+    let key_bytes : c.to_le_bytes.result ≡ lowest_first c.subkey.result = simp div-one c.to_le_bytes.ensures in
+    let block_bytes : c.to_le_bytes-2.result ≡ lowest_first (c.loop-i.v ⊕ c.block_at-2.result) =
+    simp div-one c.to_le_bytes-2.ensures in
     c.encipher.ensures.answer
     ∙ ap₂ chaskey
-    (c.from-bytes-key.ensures ∙ ap key_of key_bytes ∙ ap (λ (s : ℕ). key_of (lowest_first s)) under)
-    (c.from-bytes.ensures ∙ ap block_of block_bytes ∙ ap₂ (λ (v b : ℕ). block_of (lowest_first (v ⊕ b))) state block)
+    (c.from_bytes-key.ensures ∙ ap key_of key_bytes ∙ ap (λ (s : ℕ). key_of (lowest_first s)) under)
+    (c.from_bytes.ensures ∙ ap block_of block_bytes ∙ ap₂ (λ (v b : ℕ). block_of (lowest_first (v ⊕ b))) state block)

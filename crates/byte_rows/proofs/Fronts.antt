@@ -3,9 +3,9 @@ use Rattle.std.proofs.Common.{◌≡◌, ℕ, suc, ◌-◌, ◌<◌, ◌≤◌, 
 use Rattle.std.proofs.lemmas.List.{take_rest}
 use Rattle.std.proofs.lemmas.Bool.{le-ltb}
 use Rattle.std.proofs.lemmas.Bool.Decides.{nat_tests, leb_tells}
-use Rattle.bytes.specs.Numbers.{number}
-use Rattle.bytes.specs.Fronts.{front}
-use Rattle.bytes.proofs.Places.{by_place, number_by_place}
+use Rattle.byte_rows.specs.Numbers.{number}
+use Rattle.byte_rows.specs.Fronts.{front}
+use Rattle.byte_rows.proofs.Places.{by_place, number_by_place}
 
 pub front_is : (n : ℕ) (bytes : List ℕ) (x : ℕ) → n ≤ length bytes → x ≡ by_place n 0 bytes
     → Some (x, take (length bytes - n) (drop n bytes)) ≡ front n bytes

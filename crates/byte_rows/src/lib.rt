@@ -1,7 +1,9 @@
 // Little-endian numbers off the front of a row of bytes: each call gives the number and what follows it, or nothing
 // where too few bytes are there.
+#![tactic(auto)]
+
 ghost use Rattle.std.specs.Prelude.{◌≡◌};
-ghost use Rattle.bytes.specs.Fronts.{front, read};
+ghost use Rattle.byte_rows.specs.Fronts.{front, read};
 
 // The most bytes that a text may have.
 pub const LONGEST_TEXT: usize = 57_344;

@@ -1,7 +1,7 @@
 -- A number of n bytes at the front of a row of bytes. Assumes nothing.
 use Rattle.std.specs.Prelude.{ℕ, cond, List, length, take, drop, Some, None, Option, nat_lt}
 use Rattle.std.specs.Borrow.{Bor}
-use Rattle.bytes.specs.Numbers.{number}
+use Rattle.byte_rows.specs.Numbers.{number}
 
 -- the number and what follows it, unless fewer than n bytes are there
 abbrev pub front : ℕ → List ℕ → Option (ℕ × List ℕ)

@@ -4,7 +4,7 @@ use native.Mathlib.Nat.{pow-succ', div-div-eq-div-mul}
 use Rattle.std.specs.List.{AllByRecursion as All}
 use Rattle.std.proofs.lemmas.List.{length-take-le, take-append-drop}
 use Rattle.std.proofs.ByRecursion.{All-take}
-use Rattle.bytes.specs.Numbers.{number, bytes_of}
+use Rattle.byte_rows.specs.Numbers.{number, bytes_of}
 
 pub length_bytes_of : (n x : ℕ) → length (bytes_of n x) ≡ n
 length_bytes_of zero x = refl

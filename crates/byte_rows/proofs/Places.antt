@@ -1,7 +1,7 @@
 -- The number of a stretch of bytes, from the bytes read place by place. Assumes nothing.
 use Rattle.std.proofs.Common.{◌≡◌, ℕ, zero, suc, ◌+◌, ◌*◌, ◌≤◌, List, length, get_or, take, drop, sym, refl, ap, ◌∙◌, arith}
 use Rattle.std.proofs.lemmas.List.{drop_more}
-use Rattle.bytes.specs.Numbers.{number}
+use Rattle.byte_rows.specs.Numbers.{number}
 
 -- the n bytes from place i on
 abbrev pub by_place : ℕ → ℕ → List ℕ → ℕ

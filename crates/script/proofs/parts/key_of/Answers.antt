@@ -20,7 +20,7 @@ unfolding key_named
 returns-then-word-ne-KEY_DIGITS c =
     let w = c.args.word.now in
     let not_exact : exact 32 w ≡ false =
-    elim c.then-word-ne-KEY-DIGITS.branch [
+    elim c.then-word-ne-KEY_DIGITS.branch [
       | then-word-ne-KEY_DIGITS-via-then-word-ne-KEY_DIGITS v ↦ other_length 32 w v.if-word-ne-KEY_DIGITS.true
       | then-word-ne-KEY_DIGITS-via-else-word-ne-KEY_DIGITS+then-starts_with v ↦
           with_plus 32 w v.if-word-ne-KEY_DIGITS.false

@@ -14,7 +14,7 @@ unfolding the_seal_of
 returns-then-word-ne-SEAL_DIGITS c =
     let w = c.args.word.now in
     let not_exact : exact 16 w ≡ false =
-    elim c.then-word-ne-SEAL-DIGITS.branch [
+    elim c.then-word-ne-SEAL_DIGITS.branch [
       | then-word-ne-SEAL_DIGITS-via-then-word-ne-SEAL_DIGITS v ↦ other_length 16 w v.if-word-ne-SEAL_DIGITS.true
       | then-word-ne-SEAL_DIGITS-via-else-word-ne-SEAL_DIGITS+then-starts_with v ↦
           with_plus 16 w v.if-word-ne-SEAL_DIGITS.false

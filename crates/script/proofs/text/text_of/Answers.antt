@@ -1,9 +1,7 @@
 use Rattle.std.proofs.Common.{◌≡◌, cond, [], Some, Ok, vec_items, codes, sym, ap, ◌∙◌}
-use borrow.Author.Tests.{both_ways}
 use Rattle.script.specs.Digits.{pairs}
 use Rattle.script.specs.Parts.{bytes_or, text_of}
 use Rattle.script.proofs.Hearing.{heard_as}
-use Rattle.script.proofs.Worded.{agree, differ}
 use Rattle.script.proofs.text.text_of.Goals as goal
 
 pub returns-then-eq : goal.returns-then-eq
@@ -11,13 +9,13 @@ unfolding text_of
 returns-then-eq c =
     let w = c.args.word.now in
     ap Ok c.new.ensures.items
-    ∙ sym (ap (λ b. bytes_or (cond b (Some []) (pairs w))) (agree w (codes "-") (c.eq.ensures.0 c.if-eq.true)))
+    ∙ sym (ap (λ b. bytes_or (cond b (Some []) (pairs w))) (sym c.eq.ensures ∙ c.if-eq.true))
 
 pub returns : goal.returns
 unfolding text_of
 returns c =
     let w = c.args.word.now in
-    let other = differ w (codes "-") (λ e. both_ways c.eq.result c.if-eq.false (c.eq.ensures.1 e)) in
+    let other = sym c.eq.ensures ∙ c.if-eq.false in
     let same : bytes_or (pairs c.as_bytes.result.now) ≡ bytes_or (text_of w) =
     ap bytes_or (ap pairs c.as_bytes.ensures.value ∙ sym (ap (λ b. cond b (Some []) (pairs w)) other)) in
     heard_as (λ v. vec_items v) c.hex_bytes.result (bytes_or (pairs c.as_bytes.result.now)) (bytes_or (text_of w))

@@ -61,7 +61,7 @@ module _ (S : Sealing) {h : History} {t : Table} (B : TrueBook S h t) (g : ℕ) 
     source = λ under i.
         let w = B.source under i in
         let kept = others_stay (λ i past. (key past ≡ under.0) × Among w.sheet (sheets past))
-        (λ both. no_sheet w.sheet both.1) w.at (w.its-key, w.sealed-there) in
-        record { at = w.at; its_key = kept.0; sheet = w.sheet; sealed_there = kept.1; its_draw = w.its-draw };
+        (λ both. no_sheet w.sheet both.1) w.at (w.its_key, w.sealed_there) in
+        record { at = w.at; its_key = kept.0; sheet = w.sheet; sealed_there = kept.1; its_draw = w.its_draw };
     once = B.once;
   }

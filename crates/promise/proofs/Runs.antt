@@ -66,10 +66,10 @@ module _ (S : Sealing) where
       keys_apart = B.keys_apart;
       source = λ under i. let w = B.source under i in record {
         at = w.at;
-        its_key = w.its-key;
+        its_key = w.its_key;
         sheet = w.sheet;
-        sealed_there = w.sealed-there;
-        its_draw = w.its-draw;
+        sealed_there = w.sealed_there;
+        its_draw = w.its_draw;
       };
       once = B.once;
     }
@@ -110,10 +110,10 @@ module _ (S : Sealing) where
         source_after kept under i =
             let w = B.source under i in record {
               at = w.at;
-              its_key = keys_after w.at ∙ w.its-key;
+              its_key = keys_after w.at ∙ w.its_key;
               sheet = w.sheet;
-              sealed_there = kept w.at w.sheet w.sealed-there;
-              its_draw = w.its-draw;
+              sealed_there = kept w.at w.sheet w.sealed_there;
+              its_draw = w.its_draw;
             }
 
       module _ (a : Act) (q : Quiet a) (P : Sound S (a ∷ acts g h)) where

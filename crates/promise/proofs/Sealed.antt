@@ -18,9 +18,9 @@ module _ (S : Sealing) {h : History} {t : Table} (B : TrueBook S h t) (g : ℕ) 
   new_under under j e =
       let w = B.source under j in
       let same_grave : w.at ≡ g = B.keys_apart w.at g k
-      (w.its-key ∙ (sym (ap (λ (u : Option Key × ℕ). u.0) e) ∙ its_key)) its_key in
-      let there = subst (λ n. Among w.sheet (sheets (acts n h))) same_grave w.sealed-there in
-      let same_draw : s.draw ≡ w.sheet.draw = ap (λ (u : Option Key × ℕ). u.1) e ∙ sym w.its-draw in
+      (w.its_key ∙ (sym (ap (λ (u : Option Key × ℕ). u.0) e) ∙ its_key)) its_key in
+      let there = subst (λ n. Among w.sheet (sheets (acts n h))) same_grave w.sealed_there in
+      let same_draw : s.draw ≡ w.sheet.draw = ap (λ (u : Option Key × ℕ). u.1) e ∙ sym w.its_draw in
       (all_among _ (sheets (acts g h)) w.sheet (B.sound g).right there).not_held
       (subst (λ d. Among d (held (acts g h))) same_draw i)
 

@@ -51,8 +51,8 @@ module _ (S : Sealing) where
     was_sealed : SealedUnder past s.draw (λ x. x ≡ s.text) → Known past k s
     shares_hash : SealedUnder past s.draw (λ x. (x ≢ s.text) × (S.hash k x ≡ S.hash k s.text)) →
         Known past k s
-    never_asked : s.seal ≡ (S.answer k (S.own_Block k s.draw s.text)).first →
-        NeverAsked past k (S.own_Block k s.draw s.text) → Known past k s
+    never_asked : s.seal ≡ (S.answer k (S.own_block k s.draw s.text)).first →
+        NeverAsked past k (S.own_block k s.draw s.text) → Known past k s
 
   -- what is known of a sheet that passes, and of its standing
   pub record Earned (past : List Act) (s : Sheet) (v : Standing) : Type 0 where

@@ -13,7 +13,7 @@ some_left n is = let some = eqb-false n 0 (sym is) in omega arith
 
 pub loop-rest-smaller : goal.loop-rest-smaller
 loop-rest-smaller c =
-    let next = ap seen (sym c.in-Some.is) ∙ c.in-ok-line.ensures.1 in
+    let next = ap seen (sym c.in-Some.is) ∙ c.in_ok-line.ensures.1 in
     shorter c.loop-rest.rest.now c.in-Some.next.now next
 
 pub loop-rest-preserved : goal.loop-rest-preserved
@@ -21,24 +21,24 @@ loop-rest-preserved c =
     gone_on c.args.input.now (string_bytes c.loop-rest.text) _ _ c.loop-rest.rest.now
     (Some c.in-Some.next.now)
     (some_left (length c.loop-rest.rest.now) c.loop-rest-test.ensures) c.loop-rest.invariant
-    c.in-ok-push-str.ensures.bytes (c.as-str.ensures.value ∙ c.in-ok-line.ensures.0)
-    (ap seen (sym c.in-Some.is) ∙ c.in-ok-line.ensures.1)
+    c.in_ok-push_str.ensures.bytes (c.as_str.ensures.value ∙ c.in_ok-line.ensures.0)
+    (ap seen (sym c.in-Some.is) ∙ c.in_ok-line.ensures.1)
 
-pub returns-in-err-line : goal.returns-in-err-line
-returns-in-err-line c = record { bytes = search rules; lines = line_by_line }
+pub returns-in_err-line : goal.returns-in_err-line
+returns-in_err-line c = record { bytes = search rules; lines = line_by_line }
 
-pub returns-in-err-push-str : goal.returns-in-err-push-str
-returns-in-err-push-str c = record { bytes = search rules; lines = line_by_line }
+pub returns-in_err-push_str : goal.returns-in_err-push_str
+returns-in_err-push_str c = record { bytes = search rules; lines = line_by_line }
 
-pub returns-in-default : goal.returns-in-default
-returns-in-default c =
+pub returns-in_default : goal.returns-in_default
+returns-in_default c =
     record {
       bytes =
           sym (append-nil _)
           ∙ gone_on c.args.input.now (string_bytes c.loop-rest.text) _ _ c.loop-rest.rest.now None
           (some_left (length c.loop-rest.rest.now) c.loop-rest-test.ensures) c.loop-rest.invariant
-          c.in-ok-push-str.ensures.bytes (c.as-str.ensures.value ∙ c.in-ok-line.ensures.0)
-          (ap seen (sym c.in-default.is) ∙ c.in-ok-line.ensures.1);
+          c.in_ok-push_str.ensures.bytes (c.as_str.ensures.value ∙ c.in_ok-line.ensures.0)
+          (ap seen (sym c.in_default.is) ∙ c.in_ok-line.ensures.1);
       lines = line_by_line;
     }
 

@@ -5,8 +5,8 @@ use Rattle.listing.proofs.push_hex.Goals as goal
 pub loop-i-preserved : goal.loop-i-preserved
 loop-i-preserved c =
     pushed (string_bytes c.args.text.now) _ (string_bytes c.loop-i.text) _ c.args.number c.loop-i.i _
-    c.hex-char.result c.loop-i-test.true c.loop-i.auto.i c.loop-i.invariant
-    c.in-ok-push.ensures.bytes refl c.hex-char.ensures c.in-ok-push.ensures.ascii
+    c.hex_char.result c.loop-i-test.true c.loop-i.auto.i c.loop-i.invariant
+    c.in_ok-push.ensures.bytes refl c.hex_char.ensures c.in_ok-push.ensures.ascii
 
 pub returns : goal.returns
 returns c =

@@ -8,4 +8,4 @@ unfolding by_z rows
 rows_hold = (refl, (refl, (refl, (refl, (refl, (refl, (refl, (refl, (refl, tt)))))))))
 
 pub returns : goal.returns
-returns c = record { passes = ap₂ ◌&&◌ c.m61-agrees.ensures c.b63-agrees.ensures; rows = rows_hold }
+returns c = record { passes = ap₂ ◌&&◌ c.m61_agrees.ensures c.b63_agrees.ensures; rows = rows_hold }

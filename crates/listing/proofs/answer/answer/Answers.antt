@@ -12,12 +12,12 @@ pub returns : goal.returns
 returns c =
     let body = c.args.body.now in
     let after_field = c.in-Some.after_field.now in
-    let after_count = c.in-Some-take-u8.after_count.now in
-    let n = c.in-Some-take-u8.count in
+    let after_count = c.in-Some-take_u8.after_count.now in
+    let n = c.in-Some-take_u8.count in
     let few : n ≤ 8 = omega arith in
     answered (omega arith)
     (opened (front_some 1 body after_field c.in-Some.field c.in-Some.ensures)
-    (front_some 1 after_field after_count n c.in-Some-take-u8.ensures))
-    c.in-Some-field-named.ensures few (places _ n refl few)
-    c.in-Some-take-subkeys.ensures.rest (c.in-Some-take-subkeys.ensures.ring refl)
-    c.hash-over.ensures
+    (front_some 1 after_field after_count n c.in-Some-take_u8.ensures))
+    c.in-Some-field_named.ensures few (places _ n refl few)
+    c.in-Some-take_subkeys.ensures.rest (c.in-Some-take_subkeys.ensures.ring refl)
+    c.hash_over.ensures

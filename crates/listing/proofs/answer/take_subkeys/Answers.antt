@@ -12,11 +12,11 @@ loop-place-preserved c =
     turned c.in-Some.subkey c.in-Some.more.now c.loop-place.invariant (omega arith)
     (front_some 8 c.loop-place.rest.now c.in-Some.more.now c.in-Some.subkey c.in-Some.ensures)
 
-pub returns-in-default : goal.returns-in-default
-returns-in-default c =
+pub returns-in_default : goal.returns-in_default
+returns-in_default c =
     record {
       rest = stopped (length c.args.ring.now) c.loop-place.invariant (omega arith)
-          (front_none 8 c.loop-place.rest.now c.in-default.ensures);
+          (front_none 8 c.loop-place.rest.now c.in_default.ensures);
       ring = λ never. absurd (false≢true never);
     }
 

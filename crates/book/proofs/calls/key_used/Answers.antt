@@ -9,13 +9,13 @@ use Rattle.book.proofs.calls.key_used.Goals as goal
 pub loop-record-preserved : goal.loop-record-preserved
 loop-record-preserved c =
     sym (used_more c.args.table.now c.loop-record.record-index c.record-item.result c.args.key _
-    c.loop-record-test.true c.record-item.is c.if-holds-key.ensures)
+    c.loop-record-test.true c.record-item.is c.if-holds_key.ensures)
     ∙ c.loop-record.invariant
 
-pub returns-then-holds-key : goal.returns-then-holds-key
-returns-then-holds-key c =
+pub returns-then-holds_key : goal.returns-then-holds_key
+returns-then-holds_key c =
     sym (used_more c.args.table.now c.loop-record.record-index c.record-item.result c.args.key _
-    c.loop-record-test.true c.record-item.is c.if-holds-key.ensures)
+    c.loop-record-test.true c.record-item.is c.if-holds_key.ensures)
     ∙ c.loop-record.invariant
 
 pub returns : goal.returns

@@ -9,15 +9,15 @@ use Rattle.book.proofs.Placed.{turned_away, went_through, turned_beyond, no_such
 use Rattle.book.proofs.Finished.{finished}
 use Rattle.book.proofs.calls.Book.clear.Goals as goal
 
-pub returns-then-grave-gt-LAST-GRAVE : goal.returns-then-grave-gt-LAST-GRAVE
-returns-then-grave-gt-LAST-GRAVE g c =
+pub returns-then-grave-gt-LAST_GRAVE : goal.returns-then-grave-gt-LAST_GRAVE
+returns-then-grave-gt-LAST_GRAVE g c =
     let S = sealing g.F.Field.model (g.C.Cipher.function c.args.self.now.cipher) in
     let t = records c.args.self.now.graves.table in
     let i = c.args.grave in
     let q = grave t i in
     record {
       done = finished S S t t (to_clear i) _ refl
-          (turned_beyond t i (use_causes q) (tt) (after_clear q) c.if-grave-gt-LAST-GRAVE.true);
+          (turned_beyond t i (use_causes q) (tt) (after_clear q) c.if-grave-gt-LAST_GRAVE.true);
       kept = (refl, refl);
     }
 
@@ -30,7 +30,7 @@ returns-in-Err g c =
     record {
       done = finished S S (records rs) _ (to_clear i) _ refl
           (turned_away rs i c.index-self-grave.result there use_causes (λ (q : Record). tt) after_clear
-          (no_such_grave i) (within i c.if-grave-gt-LAST-GRAVE.false) (number_of c.in-Err.refusal) c.in-Err.ensures);
+          (no_such_grave i) (within i c.if-grave-gt-LAST_GRAVE.false) (number_of c.in-Err.refusal) c.in-Err.ensures);
       kept = (refl, refl);
     }
 
@@ -43,6 +43,6 @@ returns-in-Ok g c =
     record {
       done = finished S S (records rs) _ (to_clear i) _ refl
           (went_through rs i c.index-self-grave.result there use_causes (λ (q : Record). tt) after_clear
-          (no_such_grave i) (within i c.if-grave-gt-LAST-GRAVE.false) c.in-Ok.after c.in-Ok.ensures);
+          (no_such_grave i) (within i c.if-grave-gt-LAST_GRAVE.false) c.in-Ok.after c.in-Ok.ensures);
       kept = (refl, refl);
     }

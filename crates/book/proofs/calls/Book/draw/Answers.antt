@@ -9,15 +9,15 @@ use Rattle.book.proofs.Placed.{turned_away, went_through, turned_beyond, no_such
 use Rattle.book.proofs.Finished.{finished}
 use Rattle.book.proofs.calls.Book.draw.Goals as goal
 
-pub returns-then-grave-gt-LAST-GRAVE : goal.returns-then-grave-gt-LAST-GRAVE
-returns-then-grave-gt-LAST-GRAVE g c =
+pub returns-then-grave-gt-LAST_GRAVE : goal.returns-then-grave-gt-LAST_GRAVE
+returns-then-grave-gt-LAST_GRAVE g c =
     let S = sealing g.F.Field.model (g.C.Cipher.function c.args.self.now.cipher) in
     let t = records c.args.self.now.graves.table in
     let i = c.args.grave in
     let q = grave t i in
     record {
       done = finished S S t t (to_draw i) _ refl
-          (turned_beyond t i (draw_causes q) q.next (after_draw q) c.if-grave-gt-LAST-GRAVE.true);
+          (turned_beyond t i (draw_causes q) q.next (after_draw q) c.if-grave-gt-LAST_GRAVE.true);
       token = tt;
       kept = (refl, refl);
     }
@@ -31,7 +31,7 @@ returns-in-Err g c =
     record {
       done = finished S S (records rs) _ (to_draw i) _ refl
           (turned_away rs i c.index-self-grave.result there draw_causes (λ (q : Record). q.next) after_draw
-          (no_such_grave i) (within i c.if-grave-gt-LAST-GRAVE.false) (number_of c.in-Err.refusal) c.in-Err.ensures);
+          (no_such_grave i) (within i c.if-grave-gt-LAST_GRAVE.false) (number_of c.in-Err.refusal) c.in-Err.ensures);
       token = tt;
       kept = (refl, refl);
     }
@@ -45,7 +45,7 @@ returns-in-Ok g c =
     record {
       done = finished S S (records rs) _ (to_draw i) _ refl
           (went_through rs i c.index-self-grave.result there draw_causes (λ (q : Record). q.next) after_draw
-          (no_such_grave i) (within i c.if-grave-gt-LAST-GRAVE.false) c.in-Ok.after c.in-Ok.ensures);
+          (no_such_grave i) (within i c.if-grave-gt-LAST_GRAVE.false) c.in-Ok.after c.in-Ok.ensures);
       token = refl;
       kept = (refl, refl);
     }

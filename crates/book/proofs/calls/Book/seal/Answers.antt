@@ -24,8 +24,8 @@ returns-in-Err g c =
       kept = refl;
     }
 
-pub returns-in-Err-seal-text : goal.returns-in-Err-seal-text
-returns-in-Err-seal-text g c =
+pub returns-in-Err-seal_text : goal.returns-in-Err-seal_text
+returns-in-Err-seal_text g c =
     let m = g.F.Field.model in
     let S = sealing m (g.C.Cipher.function c.args.self.now.cipher) in
     let rs = c.args.self.now.graves.table in
@@ -35,9 +35,9 @@ returns-in-Err-seal-text g c =
     let places = length c.args.ring.now in
     let there : i < length rs = omega arith in
     record {
-      done = finished S _ (records rs) _ (to_seal i n text places) _ (ap (sealing m) c.in-Err-seal-text.ensures.kept)
+      done = finished S _ (records rs) _ (to_seal i n text places) _ (ap (sealing m) c.in-Err-seal_text.ensures.kept)
           (text_refused S rs i c.index-self-draw.result there n text places c.in-Ok.spent c.in-Ok.ensures
-          (number_of c.in-Err-seal-text.refusal) c.in-Err-seal-text.ensures.answer);
+          (number_of c.in-Err-seal_text.refusal) c.in-Err-seal_text.ensures.answer);
       back = refl;
       zeros = search rules;
       kept = refl;
@@ -54,9 +54,9 @@ returns g c =
     let places = length c.args.ring.now in
     let there : i < length rs = omega arith in
     record {
-      done = finished S _ (records rs) _ (to_seal i n text places) _ (ap (sealing m) c.in-Ok-seal-text.ensures.kept)
+      done = finished S _ (records rs) _ (to_seal i n text places) _ (ap (sealing m) c.in-Ok-seal_text.ensures.kept)
           (sealed_so S rs i c.index-self-draw.result there n text places c.in-Ok.spent c.in-Ok.ensures
-          c.in-Ok-seal-text.seal c.in-Ok-seal-text.ensures.answer);
+          c.in-Ok-seal_text.seal c.in-Ok-seal_text.ensures.answer);
       back = tt;
       zeros = search rules;
       kept = refl;

@@ -3,8 +3,8 @@
 
 use anyhow::anyhow;
 use day::Day;
-use libc::isatty;
 use std::env;
+use std::io::IsTerminal;
 
 const USAGE: &str =
     "Usage: bookrun < FILE. Reads calls from standard input, one to a line, and prints their answers.";
@@ -25,14 +25,11 @@ fn run(rt: &HostRuntime) -> anyhow::Result<()> {
     followed
 }
 
-// The file descriptor of standard input.
-const INPUT: i32 = 0;
-
 // There are no arguments: any gets the usage, and only one that asks for it is no error.
 fn main(rt: HostRuntime) -> anyhow::Result<()> {
     match env::args(&rt)?.nth(1) {
         None => {
-            if isatty(INPUT) == 1 {
+            if rt.stdin().is_terminal() {
                 rt.eprintln(USAGE)?;
             }
             run(&rt)

@@ -2,10 +2,9 @@
 #![tactic(auto)]
 
 use anyhow::anyhow;
-use libc::isatty;
 use listing::listing;
 use std::env;
-use std::io::Read;
+use std::io::{IsTerminal, Read};
 
 const USAGE: &str =
     "Usage: sheethash < FILE. Reads hash records from standard input, and prints a line for each.";
@@ -21,14 +20,11 @@ fn run(rt: &HostRuntime) -> anyhow::Result<()> {
     Ok(())
 }
 
-// The file descriptor of standard input.
-const INPUT: i32 = 0;
-
 // There are no arguments: any gets the usage, and only one that asks for it is no error.
 fn main(rt: HostRuntime) -> anyhow::Result<()> {
     match env::args(&rt)?.nth(1) {
         None => {
-            if isatty(INPUT) == 1 {
+            if rt.stdin().is_terminal() {
                 rt.eprintln(USAGE)?;
             }
             run(&rt)

@@ -28,7 +28,7 @@ returns g c =
     let t = records c.args.self.book.graves.table in
     let hand = vec_items c.args.self.hand in
     let empty : vec_items c.loop-draw.hand ≡ [] =
-    nil_from_length _ (sym c.loop-draw.hand.ok.0 ∙ c.in-default.ensures.cases.0) in
+    nil_from_length _ (sym c.loop-draw.hand.ok.0 ∙ c.in_default.ensures.cases.0) in
     let left : records c.loop-draw.book.graves.table ≡ all_voided S (reverse hand) t =
     none_left S (vec_items c.loop-draw.hand) _ _ empty c.loop-draw.invariant.2 in
     record {

@@ -1,5 +1,5 @@
 -- A check at a grave's place: its answer, and the table with the record that it left. Assumes nothing.
-use Rattle.std.proofs.Common.{◌≡◌, ℕ, ◌<◌, ◌≤◌, Bool, true, false, cond, eqb, List, length, get_or, set, sym, refl, ap, ◌∙◌}
+use Rattle.std.proofs.Common.{◌≡◌, ℕ, ◌<◌, ◌≤◌, true, false, cond, eqb, List, length, get_or, set, refl, ap, ◌∙◌}
 use lib.Seq.{map-set, set-get_or}
 use Rattle.refusal.specs.Outcomes.{Outcome, gives, refuses, decided}
 use Rattle.seal.specs.Sealing.{Sealing}

@@ -1,7 +1,7 @@
 -- Opening a grave: its record's own test, and then the search for the key. Assumes nothing.
-use Rattle.std.proofs.Common.{◌≡◌, ℕ, ◌<◌, ◌≤◌, Bool, true, false, cond, List, [], ◌∷◌, length, get_or, set, sym, ap, ◌∙◌}
+use Rattle.std.proofs.Common.{◌≡◌, ℕ, ◌<◌, ◌≤◌, Bool, true, false, cond, List, [], ◌∷◌, length, get_or, set, ap, ◌∙◌}
 use lib.Seq.{map-set}
-use Rattle.refusal.specs.Outcomes.{Outcome, gives, refuses, Cause, ◌when◌, decided}
+use Rattle.refusal.specs.Outcomes.{Outcome, gives, refuses, ◌when◌, decided}
 use Rattle.refusal.proofs.Decided.{absent, undecided, same_value, alike}
 use Rattle.cipher.specs.declared.Key.{Key}
 use Rattle.seal.specs.Sealing.{Sealing}

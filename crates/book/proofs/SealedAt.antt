@@ -1,5 +1,5 @@
 -- Sealing under a draw: the grave's record first, then text and ring list, then the seal. Assumes nothing.
-use Rattle.std.proofs.Common.{◌≡◌, ℕ, ◌<◌, List, length, get_or, set, sym, ap, ◌∙◌}
+use Rattle.std.proofs.Common.{◌≡◌, ℕ, ◌<◌, List, length, get_or, set, ap, ◌∙◌}
 use lib.Seq.{map-set, set-get_or}
 use Rattle.refusal.specs.Outcomes.{Outcome, gives, refuses, Cause, decided}
 use Rattle.refusal.proofs.Decided.{absent, undecided, same_value, alike}

@@ -2,7 +2,7 @@
 use Rattle.std.specs.Prelude.{ℕ, ◌⊎◌, List, [], ◌∷◌, ◌++◌}
 use Rattle.refusal.specs.Outcomes.{Outcome}
 use Rattle.seal.specs.Sealing.{Sealing}
-use Rattle.promise.specs.History.{Event, History, Act, Sheet, on, drawn, sealed, turned_away, to_void, event}
+use Rattle.promise.specs.History.{Event, History, Sheet, on, drawn, sealed, turned_away, to_void, event}
 use Rattle.promise.specs.Records.{Table}
 use Rattle.promise.specs.Register.{Reached}
 

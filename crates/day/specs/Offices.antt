@@ -16,7 +16,7 @@ use Rattle.book.specs.declared.calls.Account.{Account}
 use Rattle.graves.specs.declared.turns.Standing.{Standing}
 use Rattle.graves.specs.Checks.{checked_told}
 use Rattle.book.specs.Calls.{plain_told, account_told, tell_outcome, Owing}
-use Rattle.desk.specs.Desks.{State, state, Passed-on, Drawn, Sealed, Voided, Absent}
+use Rattle.desk.specs.Desks.{State, state, PassedOn, Drawn, Sealed, Voided, Absent}
 use Rattle.script.specs.declared.names.CipherName.{CipherName}
 use Rattle.script.specs.declared.names.CipherName.TheVariants.{Noekeon, Chaskey}
 use Rattle.script.specs.declared.names.FieldName.{FieldName}
@@ -31,7 +31,7 @@ use Rattle.day.specs.Replies.{plain, drawn, sealed, voided, checked, accounted}
 -- the call was made at desk d with a ring of p places, and left d'; the answer is what the desk told
 abbrev pub Made : State → Ask → ℕ → Answer → State → Type 0
 Made d (open_it g k) p a d' =
-    (r : Result (Unit {0}) Refusal) × (a ≡ plain r) × Passed-on d (to_open g k) (plain_told r) d'
+    (r : Result (Unit {0}) Refusal) × (a ≡ plain r) × PassedOn d (to_open g k) (plain_told r) d'
 Made d (draw_it g) p a d' = (r : Result ℕ Refusal) × (a ≡ drawn r) × Drawn d g r d'
 Made d (seal_it g n x) p a d' =
     (r : Option (Result ℕ Refusal)) × (a ≡ sealed r) × MatchOption r (Absent d g n d') (λ t. Sealed d g n x p t d')
@@ -40,11 +40,11 @@ Made d (void_it g n) p a d' =
 Made d (check_it g n x s) p a d' =
     (r : Result Standing Refusal)
     × (a ≡ checked r)
-    × Passed-on d (to_check g (record { draw = n; text = x; seal = s }) p) (checked_told r) d'
+    × PassedOn d (to_check g (record { draw = n; text = x; seal = s }) p) (checked_told r) d'
 Made d (clear_it g) p a d' =
-    (r : Result (Unit {0}) Refusal) × (a ≡ plain r) × Passed-on d (to_clear g) (plain_told r) d'
+    (r : Result (Unit {0}) Refusal) × (a ≡ plain r) × PassedOn d (to_clear g) (plain_told r) d'
 Made d (close_it g) p a d' =
-    (r : Result (Unit {0}) Refusal) × (a ≡ plain r) × Passed-on d (to_close g) (plain_told r) d'
+    (r : Result (Unit {0}) Refusal) × (a ≡ plain r) × PassedOn d (to_close g) (plain_told r) d'
 Made d (tell_it g) p a d' =
     (r : Result Account Refusal)
     × (a ≡ accounted r)

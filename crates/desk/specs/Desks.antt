@@ -33,7 +33,7 @@ abbrev pub Asked : State → (c : Call) → Outcome (Given c) → State → Type
 Asked d c o d' = Done d.sealing d.table c o d'.sealing d'.table
 
 -- that, and the hand is as it was
-pub record Passed-on (d : State) (c : Call) (o : Outcome (Given c)) (d' : State) : Type 0 where
+pub record PassedOn (d : State) (c : Call) (o : Outcome (Given c)) (d' : State) : Type 0 where
   pub asked : Asked d c o d'
   pub hand : d'.hand ≡ d.hand
 

@@ -10,7 +10,7 @@ ghost use Rattle.promise.specs.Promise.{Promise};
 ghost use Rattle.graves.specs.Entries.{records};
 ghost use Rattle.graves.specs.Checks.{checked_told, claimed};
 ghost use Rattle.book.specs.Calls.{plain_told, account_told, tell_outcome, Owing};
-ghost use Rattle.desk.specs.Desks.{state, Passed-on, Drawn, Sealed, Voided, Absent};
+ghost use Rattle.desk.specs.Desks.{state, PassedOn, Drawn, Sealed, Voided, Absent};
 ghost use Rattle.desk.specs.Endings.{all_voided, and_voids};
 ghost use Rattle.desk.specs.Places.{PlaceOf, Taken};
 
@@ -60,7 +60,7 @@ impl<F: Field, C: Cipher> Desk<F, C> {
     }
 
     pub fn open(&mut self, grave: u16, key: Key) -> Result<(), Refusal>
-        ensures done { Passed-on (state F.Field.model C.Cipher.function self.old) (to_open grave key) (plain_told result) (state F.Field.model C.Cipher.function self.new) }
+        ensures done { PassedOn (state F.Field.model C.Cipher.function self.old) (to_open grave key) (plain_told result) (state F.Field.model C.Cipher.function self.new) }
         ensures kept { self.new.book.field ≡ self.old.book.field }
     {
         self.book.open(grave, key)
@@ -124,7 +124,7 @@ impl<F: Field, C: Cipher> Desk<F, C> {
         claim: Claim<'_>,
         ring: &mut [u64],
     ) -> Result<Standing, Refusal>
-        ensures done { Passed-on (state F.Field.model C.Cipher.function self.old) (to_check grave (claimed claim.entry) (length ring.old)) (checked_told result) (state F.Field.model C.Cipher.function self.new) }
+        ensures done { PassedOn (state F.Field.model C.Cipher.function self.old) (to_check grave (claimed claim.entry) (length ring.old)) (checked_told result) (state F.Field.model C.Cipher.function self.new) }
         ensures zeros { ring.new ≡ replicate (length ring.old) 0 }
         ensures kept { self.new.book.field ≡ self.old.book.field }
     {
@@ -132,7 +132,7 @@ impl<F: Field, C: Cipher> Desk<F, C> {
     }
 
     pub fn clear(&mut self, grave: u16) -> Result<(), Refusal>
-        ensures done { Passed-on (state F.Field.model C.Cipher.function self.old) (to_clear grave) (plain_told result) (state F.Field.model C.Cipher.function self.new) }
+        ensures done { PassedOn (state F.Field.model C.Cipher.function self.old) (to_clear grave) (plain_told result) (state F.Field.model C.Cipher.function self.new) }
         ensures kept { self.new.book.field ≡ self.old.book.field }
     {
         self.book.clear(grave)
@@ -140,7 +140,7 @@ impl<F: Field, C: Cipher> Desk<F, C> {
 
     // The draws in hand of a closed grave stay there, and the book refuses each.
     pub fn close(&mut self, grave: u16) -> Result<(), Refusal>
-        ensures done { Passed-on (state F.Field.model C.Cipher.function self.old) (to_close grave) (plain_told result) (state F.Field.model C.Cipher.function self.new) }
+        ensures done { PassedOn (state F.Field.model C.Cipher.function self.old) (to_close grave) (plain_told result) (state F.Field.model C.Cipher.function self.new) }
         ensures kept { self.new.book.field ≡ self.old.book.field }
     {
         self.book.close(grave)

@@ -1,5 +1,5 @@
 -- Counting modulo n keeps the laws of a field, if n lies within the bounds on a field's size. Assumes nothing.
-use mathlib.Core.Path.{◌≡◌, ap, ◌∙◌}
+use mathlib.Core.Path.{ap, ◌∙◌}
 use Prim.Native.Nat.{ℕ, ◌+◌, ◌-◌, ◌*◌, ◌%◌, ◌^◌, ◌<◌, ◌≤◌}
 use native.Mathlib.Nat.{mul_comm, add_comm, add-zero, mul-one, mod-lt, mod-eq_of_lt}
 use native.Mathlib.Omega.{arith}

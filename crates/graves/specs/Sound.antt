@@ -1,5 +1,5 @@
 -- What holds of every record that can exist. Assumes nothing.
-use Rattle.std.specs.Prelude.{ℕ, ◌+◌, Bool, true, false, not, ◌&&◌, ◌||◌, List, [], ◌∷◌, length, nat_lt}
+use Rattle.std.specs.Prelude.{ℕ, ◌+◌, Bool, true, not, ◌&&◌, List, [], ◌∷◌, length, nat_lt}
 use Rattle.promise.specs.Draws.{holds}
 use Rattle.graves.specs.declared.entry.Entry.{Entry}
 use Rattle.graves.specs.Held.{draws}

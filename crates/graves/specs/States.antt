@@ -1,5 +1,5 @@
 -- How a grave's state goes on, by the causes of refusal that the calls' rules name. Assumes nothing.
-use Rattle.std.specs.Prelude.{ℕ, not, List, [], ◌∷◌, Ok, Err, Result}
+use Rattle.std.specs.Prelude.{not, List, [], ◌∷◌, Ok, Err, Result}
 use Rattle.refusal.specs.declared.Refusal.{Refusal}
 use Rattle.refusal.specs.Numbers.{number_of}
 use Rattle.refusal.specs.Outcomes.{Outcome, gives, refuses, Cause, ◌when◌, decided}

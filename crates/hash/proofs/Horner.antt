@@ -1,5 +1,5 @@
 -- The hash's loop over chunks: from the code's working numbers and cut text to the definition. Assumes nothing.
-use Rattle.std.proofs.Common.{◌≡◌, ℕ, zero, suc, ◌+◌, ◌-◌, ◌*◌, ◌^◌, ◌<◌, ◌≤◌, min, List, ◌++◌, map, length, get_or, take, drop, sym, refl, ap, ◌∙◌, ap₂, add-zero, add-suc, arith, lit<}
+use Rattle.std.proofs.Common.{◌≡◌, ℕ, zero, suc, ◌+◌, ◌-◌, ◌*◌, ◌^◌, ◌<◌, ◌≤◌, min, List, ◌++◌, map, length, get_or, take, drop, sym, ap, ◌∙◌, ap₂, add-zero, add-suc, arith, lit<}
 use Rattle.std.proofs.lemmas.List.{length-drop, drop-drop, get_or-map}
 use Rattle.field.specs.Model.{Model}
 use Rattle.field.specs.Laws.{FieldLaws}

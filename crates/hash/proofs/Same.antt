@@ -2,7 +2,7 @@
 use Rattle.std.proofs.Common.{◌≡◌, ℕ, zero, suc, ◌<◌, ◌≤◌, List, length, get_or, refl, ap, ap₂, arith}
 use Rattle.field.specs.Model.{Model}
 use Rattle.hash.specs.Texts.{block, block_count, chunk_count, chunk_of}
-use Rattle.hash.specs.Hash.{subkey, after, hash_of}
+use Rattle.hash.specs.Hash.{after, hash_of}
 
 module _ (m : Model) (a b text : List ℕ) (alike : (c : ℕ) → c < chunk_count text → get_or a c 0 ≡ get_or b c 0) where
   after_same : (i : ℕ) → i ≤ block_count text → after m a text i ≡ after m b text i

@@ -1,8 +1,8 @@
 -- The listing, record by record: the first line, and then the listing of what follows. Assumes nothing.
-use Rattle.std.proofs.Common.{◌≡◌, ℕ, zero, suc, ◌+◌, ◌-◌, ◌<◌, ◌≤◌, Bool, true, false, cond, ◌||◌, ltb, List, [], ◌∷◌, ◌++◌, length, drop, Some, None, Option, sym, refl, ap, ◌∙◌, ap₂, append_assoc, append-nil, arith}
+use Rattle.std.proofs.Common.{◌≡◌, ℕ, zero, suc, ◌+◌, ◌<◌, ◌≤◌, Bool, true, false, cond, ◌||◌, List, [], ◌∷◌, ◌++◌, length, Some, None, Option, sym, refl, ap, ◌∙◌, ap₂, append_assoc, append-nil, arith}
 use Rattle.std.proofs.lemmas.List.{length-drop, nil_from_length}
 use Rattle.std.proofs.lemmas.Bool.{ltb-false, true≢false}
-use Rattle.record.specs.Records.{Parts, stated, record_of}
+use Rattle.record.specs.Records.{Parts, stated}
 use Rattle.listing.specs.Requests.{request_outcome}
 use Rattle.listing.specs.Lines.{outcome_of, cut_short, behind, next_of, line_of, continued, lines, listing_of, LineByLine}
 

@@ -1,5 +1,5 @@
 -- A record of kind 2 asks for a hash: a field byte, a count of subkeys, the subkeys, and the text. Assumes nothing.
-use Rattle.std.specs.Prelude.{ℕ, zero, suc, ◌+◌, ◌*◌, Bool, cond, not, ◌||◌, ltb, List, [], ◌∷◌, length, take, drop, is_some, ◌==◌, nat_lt, slice_index}
+use Rattle.std.specs.Prelude.{ℕ, zero, suc, ◌+◌, ◌*◌, not, ◌||◌, ltb, List, [], ◌∷◌, length, take, drop, is_some, ◌==◌, nat_lt, slice_index}
 use Rattle.refusal.specs.Outcomes.{Cause, ◌when◌, Outcome, decided}
 use Rattle.byte_rows.specs.Numbers.{number}
 use Rattle.fields.specs.Fields.{field_called, hash_over_field}

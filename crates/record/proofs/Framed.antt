@@ -1,10 +1,10 @@
 -- The record that the slice pattern and the split give is the one at the front of the input. Assumes nothing.
-use Rattle.std.proofs.Common.{◌≡◌, ℕ, ◌+◌, ◌-◌, ◌≤◌, false, ◌||◌, ltb, List, length, take, drop, Some, sym, ap, ◌∙◌, arith}
+use Rattle.std.proofs.Common.{◌≡◌, ℕ, ◌+◌, ◌-◌, ◌≤◌, false, ltb, List, length, take, drop, Some, ap, ◌∙◌, arith}
 use Rattle.std.proofs.lemmas.List.{take_rest, drop-drop}
 use Rattle.std.proofs.lemmas.Bool.{le-ltb}
 use Rattle.byte_rows.specs.Numbers.{number}
 use Rattle.byte_rows.proofs.Places.{by_place, number_by_place}
-use Rattle.record.specs.Records.{Parts, stated, record_of}
+use Rattle.record.specs.Records.{stated, record_of}
 
 pub framed : (input : List ℕ) (kind len : ℕ) (body rest : List ℕ) → 6 ≤ length input
     → len ≡ by_place 4 0 input → kind ≡ by_place 2 4 input → 2 ≤ len → len - 2 ≤ length input - 6

@@ -1,5 +1,5 @@
 -- The cipher's answer to a seal's own block is the seal. Assumes nothing.
-use Rattle.std.proofs.Common.{◌≡◌, ℕ, ◌+◌, ◌^◌, List, length, ap, ◌∙◌}
+use Rattle.std.proofs.Common.{◌≡◌, ℕ, ◌+◌, ◌^◌, List, ap, ◌∙◌}
 use Rattle.refusal.specs.Outcomes.{gives, decided}
 use Rattle.refusal.proofs.Decided.{absent, same_value, undecided}
 use Rattle.field.specs.Model.{Model}

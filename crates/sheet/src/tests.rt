@@ -29,8 +29,8 @@ fn read_part_by_part(rt: HostRuntime) -> Result<(), Fail> {
                 text,
             } = sheet;
             assert_eq!(rt; (grave, draw, seal), (7, 258, 3));
-            assert_eq!(rt; text, &[65, 66]);
-            assert_eq!(rt; rest, &[9, 9]);
+            assert_eq!(rt; text, [65, 66].as_slice());
+            assert_eq!(rt; rest, [9, 9].as_slice());
             Ok(())
         }
     }

@@ -1,4 +1,4 @@
-use Rattle.std.proofs.Common.{◌≡◌, ℕ, List, map, length, sym, ap, ◌∙◌}
+use Rattle.std.proofs.Common.{ℕ, List, map, length, sym, ap, ◌∙◌}
 use Rattle.refusal.specs.Outcomes.{gives}
 use Rattle.refusal.proofs.Decided.{absent, undecided}
 use Rattle.hash.specs.Hash.{text_causes, hash_causes, hash_of}

@@ -1,7 +1,7 @@
 use Rattle.std.proofs.Common.{ℕ, ap, ◌∙◌}
 use Rattle.std.specs.Slice.Iter.{chunks_rest}
 use Rattle.hash.specs.Steps.{group_blocks, through}
-use Rattle.hash.proofs.Steps.{turned, arrived}
+use Rattle.hash.proofs.Steps.{turned}
 use Rattle.hash.proofs.through_chunk.Goals as goal
 
 pub loop-group-preserved-then-group-eq-GROUP_BYTES : goal.loop-group-preserved-then-group-eq-GROUP_BYTES

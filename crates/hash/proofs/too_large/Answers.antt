@@ -1,4 +1,4 @@
-use Rattle.std.proofs.Common.{◌+◌, ◌<◌, ◌≤◌, ◌||◌, leb, get_or, drop, sym, ap, ◌∙◌, arith}
+use Rattle.std.proofs.Common.{◌+◌, ◌||◌, leb, get_or, drop, sym, ap, ◌∙◌}
 use Rattle.hash.specs.Hash.{some_from}
 use Rattle.hash.proofs.Rings.{from_next, from_none}
 use Rattle.hash.proofs.too_large.Goals as goal

@@ -1,4 +1,4 @@
-use Rattle.std.proofs.Common.{◌≡◌, cond, [], Some, Ok, vec_items, codes, sym, ap, ◌∙◌}
+use Rattle.std.proofs.Common.{◌≡◌, cond, [], Some, Ok, vec_items, sym, ap, ◌∙◌}
 use Rattle.script.specs.Digits.{pairs}
 use Rattle.script.specs.Parts.{bytes_or, text_of}
 use Rattle.script.proofs.Hearing.{heard_as}

@@ -1,5 +1,4 @@
-pub mod Answers
 pub mod Suites
-pub mod Names
-pub mod Seals
+pub mod Calls
+pub mod Values
 pub mod Sheets

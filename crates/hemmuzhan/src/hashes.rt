@@ -2,7 +2,8 @@
 ghost use Rattle.std.specs.Prelude.{◌≡◌};
 ghost use Rattle.refusal.specs.Outcomes.{told};
 ghost use Rattle.fields.specs.Fields.{field_called, hash_over_field};
-ghost use Rattle.hemmuzhan.specs.Answers.{status, value_after};
+ghost use Rattle.hemmuzhan.specs.Calls.{status};
+ghost use Rattle.hemmuzhan.specs.Values.{value_after};
 
 use fields::{field_named, hash_over};
 use refusal::Refusal;
@@ -17,8 +18,7 @@ fn hashed(field: u8, ring: &[u64], text: &[u8]) -> Result<u64, Refusal>
 }
 
 // Writes the text's hash under the ring to `hash`.
-#[unsafe(no_mangle)]
-pub extern "C" fn hemmuzhan_hash(field: u8, ring: &[u64], text: &[u8], hash: &mut u64) -> u8
+pub fn hemmuzhan_hash(field: u8, ring: &[u64], text: &[u8], hash: &mut u64) -> u8
     ensures answer { result ≡ status (hash_over_field (field_called field) ring.now text.now) }
     ensures hash { hash.new ≡ value_after (hash_over_field (field_called field) ring.now text.now) hash.old }
 {

@@ -4,14 +4,14 @@ ghost use Rattle.refusal.specs.Outcomes.{mapped};
 ghost use Rattle.sheet.specs.Sheets.{read_outcome};
 ghost use Rattle.sheet.specs.Names.{sealed};
 ghost use Rattle.sheet.specs.Writing.{write_outcome, buffer_after};
-ghost use Rattle.hemmuzhan.specs.Answers.{status, value_after};
+ghost use Rattle.hemmuzhan.specs.Calls.{status};
+ghost use Rattle.hemmuzhan.specs.Values.{value_after};
 ghost use Rattle.hemmuzhan.specs.Sheets.{grave_read, draw_read, seal_read, text_length_read, Placed, RecordLength};
 
 use sheet::{Read, read_sheet, write_sheet};
 
 // Reads the sheet at the front of the input. Its text begins at byte 24 of the input, and ends its record.
-#[unsafe(no_mangle)]
-pub extern "C" fn hemmuzhan_read_sheet(
+pub fn hemmuzhan_read_sheet(
     input: &[u8],
     grave: &mut u64,
     draw: &mut u64,
@@ -38,14 +38,7 @@ pub extern "C" fn hemmuzhan_read_sheet(
 }
 
 // Writes the sheet's record, 24 bytes and the text, to the front of the buffer.
-#[unsafe(no_mangle)]
-pub extern "C" fn hemmuzhan_write_sheet(
-    grave: u16,
-    draw: u64,
-    seal: u64,
-    text: &[u8],
-    buffer: &mut [u8],
-) -> u8
+pub fn hemmuzhan_write_sheet(grave: u16, draw: u64, seal: u64, text: &[u8], buffer: &mut [u8]) -> u8
     ensures answer { result ≡ status (write_outcome (sealed grave draw seal text.now) (length buffer.old)) }
     ensures buffer { buffer.new ≡ buffer_after (sealed grave draw seal text.now) buffer.old }
     ensures size { RecordLength (sealed grave draw seal text.now) }

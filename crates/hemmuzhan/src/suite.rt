@@ -1,82 +1,32 @@
 // A field and a cipher, chosen by number: what a seal is made over.
 ghost use Rattle.std.specs.Prelude.{◌≡◌, length, replicate};
-ghost use Rattle.refusal.specs.Outcomes.{told, mapped};
-ghost use Rattle.fields.specs.Names.{model_of};
+ghost use Rattle.refusal.specs.Outcomes.{told};
 ghost use Rattle.seal.specs.Sealing.{seal_outcome, check_outcome};
-ghost use Rattle.seal.specs.Seals.{sealing};
-ghost use Rattle.hemmuzhan.specs.Suites.{cipher_called, suite_outcome};
-ghost use Rattle.hemmuzhan.specs.Names.{cipher_seen, sealing_of};
+ghost use Rattle.hemmuzhan.specs.Suites.{sealing_of, suite_outcome};
 
 use b63::B63;
 use chaskey::Chaskey;
-use fields::{FieldName, field_named};
 use m61::M61;
 use noekeon::Noekeon;
-use seal::{Cipher, Key, Refusal, check_seal, seal_text};
+use seal::{Key, Refusal, check_seal, seal_text};
 
 #[derive(Clone, Copy)]
-pub enum CipherName {
-    Noekeon,
-    Chaskey,
-}
-
-fn cipher_named(number: u8) -> Option<CipherName>
-    ensures { cipher_seen result ≡ cipher_called number }
-{
-    match number {
-        0 => Some(CipherName::Noekeon),
-        1 => Some(CipherName::Chaskey),
-        _ => None,
-    }
-}
-
-#[derive(Clone, Copy)]
-pub struct Suite {
-    pub field: FieldName,
-    pub cipher: CipherName,
+pub enum Suite {
+    M61Noekeon,
+    M61Chaskey,
+    B63Noekeon,
+    B63Chaskey,
 }
 
 pub fn suite_named(field: u8, cipher: u8) -> Result<Suite, Refusal>
-    ensures { mapped sealing_of (told result) ≡ suite_outcome field cipher }
+    ensures { told result ≡ suite_outcome field cipher }
 {
-    match (field_named(field), cipher_named(cipher)) {
-        (Some(field), Some(cipher)) => Ok(Suite { field, cipher }),
+    match (field, cipher) {
+        (0, 0) => Ok(Suite::M61Noekeon),
+        (0, 1) => Ok(Suite::M61Chaskey),
+        (1, 0) => Ok(Suite::B63Noekeon),
+        (1, 1) => Ok(Suite::B63Chaskey),
         _ => Err(Refusal::Undefined),
-    }
-}
-
-fn seal_over<C: Cipher>(
-    field: FieldName,
-    cipher: &mut C,
-    key: Key,
-    draw: u64,
-    text: &[u8],
-    ring: &mut [u64],
-) -> Result<u64, Refusal>
-    ensures answer { told result ≡ seal_outcome (sealing (model_of field) (C.Cipher.function cipher.old)) key draw text.now (length ring.old) }
-    ensures zeros { ring.new ≡ replicate (length ring.old) 0 }
-{
-    match field {
-        FieldName::M61 => seal_text::<M61, C>(cipher, key, draw, text, ring),
-        FieldName::B63 => seal_text::<B63, C>(cipher, key, draw, text, ring),
-    }
-}
-
-fn check_over<C: Cipher>(
-    field: FieldName,
-    cipher: &mut C,
-    key: Key,
-    draw: u64,
-    text: &[u8],
-    seal: u64,
-    ring: &mut [u64],
-) -> Result<bool, Refusal>
-    ensures answer { told result ≡ check_outcome (sealing (model_of field) (C.Cipher.function cipher.old)) key draw text.now seal (length ring.old) }
-    ensures zeros { ring.new ≡ replicate (length ring.old) 0 }
-{
-    match field {
-        FieldName::M61 => check_seal::<M61, C>(cipher, key, draw, text, seal, ring),
-        FieldName::B63 => check_seal::<B63, C>(cipher, key, draw, text, seal, ring),
     }
 }
 
@@ -85,9 +35,11 @@ impl Suite {
         ensures answer { told result ≡ seal_outcome (sealing_of self) key draw text.now (length ring.old) }
         ensures zeros { ring.new ≡ replicate (length ring.old) 0 }
     {
-        match self.cipher {
-            CipherName::Noekeon => seal_over(self.field, &mut Noekeon, key, draw, text, ring),
-            CipherName::Chaskey => seal_over(self.field, &mut Chaskey, key, draw, text, ring),
+        match self {
+            Suite::M61Noekeon => seal_text::<M61, Noekeon>(&mut Noekeon, key, draw, text, ring),
+            Suite::M61Chaskey => seal_text::<M61, Chaskey>(&mut Chaskey, key, draw, text, ring),
+            Suite::B63Noekeon => seal_text::<B63, Noekeon>(&mut Noekeon, key, draw, text, ring),
+            Suite::B63Chaskey => seal_text::<B63, Chaskey>(&mut Chaskey, key, draw, text, ring),
         }
     }
 
@@ -103,9 +55,8 @@ impl Suite {
         ensures answer { told result ≡ check_outcome (sealing_of self) key draw text.now seal (length ring.old) }
         ensures zeros { ring.new ≡ replicate (length ring.old) 0 }
     {
-        match self.cipher {
-            CipherName::Noekeon => check_over(
-                self.field,
+        match self {
+            Suite::M61Noekeon => check_seal::<M61, Noekeon>(
                 &mut Noekeon,
                 key,
                 draw,
@@ -113,8 +64,23 @@ impl Suite {
                 seal,
                 ring,
             ),
-            CipherName::Chaskey => check_over(
-                self.field,
+            Suite::M61Chaskey => check_seal::<M61, Chaskey>(
+                &mut Chaskey,
+                key,
+                draw,
+                text,
+                seal,
+                ring,
+            ),
+            Suite::B63Noekeon => check_seal::<B63, Noekeon>(
+                &mut Noekeon,
+                key,
+                draw,
+                text,
+                seal,
+                ring,
+            ),
+            Suite::B63Chaskey => check_seal::<B63, Chaskey>(
                 &mut Chaskey,
                 key,
                 draw,

@@ -49,7 +49,7 @@ static uint64_t library_seal(uint8_t field, uint8_t cipher, size_t length)
 {
     uint64_t ring[PLACES], seal = 0;
     uint8_t answer =
-        hemmuzhan_seal(field, cipher, key_word(0), key_word(1), length, text, length, ring, PLACES, &seal);
+        hemmuzhan_seal(field, cipher, key_word(0), key_word(1), length, text, length, ring, PLACES, &seal, 1);
     must(answer == 0, "the library refuses to seal", length);
     return seal;
 }

@@ -1,8 +1,8 @@
 /*
  * Hemmuzhan for C: the hash, the seal and its check, and the sealed sheet on a chip.
  *
- * Link libhemmuzhan.a: of the C library it needs memset alone, and nothing else. What each call does is proved; that
- * these declarations fit the calls is not.
+ * Link libhemmuzhan.a: of the C library it needs memmove and memset, and nothing else. What each call does is proved;
+ * that these declarations fit the calls is not.
  *
  * Every call answers 0, or the number of the first refusal in the order that is given with the call. A refused call
  * changes nothing, but for the ring list of hemmuzhan_seal and hemmuzhan_check. No call allocates, prints or keeps an
@@ -46,7 +46,7 @@ enum hemmuzhan_refusal {
     HEMMUZHAN_SUBKEY_TOO_LARGE = 13,  /* a subkey is no element's own number: 2^61 - 1 or 2^63, or above */
     HEMMUZHAN_RECORD_CUT_SHORT = 14,  /* a part of the record is missing */
     HEMMUZHAN_UNDEFINED = 15,         /* the field, the cipher or the record's kind is none that is defined */
-    HEMMUZHAN_BUFFER_TOO_SHORT = 16   /* the buffer is too short for the record */
+    HEMMUZHAN_BUFFER_TOO_SHORT = 16   /* the buffer is too short for the record, or the seal has no place */
 };
 
 /*
@@ -57,14 +57,14 @@ uint8_t hemmuzhan_hash(uint8_t field, const uint64_t *ring, size_t ring_places,
                        const uint8_t *text, size_t text_length, uint64_t *hash);
 
 /*
- * Writes the seal of the text under the key and the draw to *seal. As bytes, a key is its first number and then its
- * second, each with its highest byte first. The ring list is the caller's memory for subkeys: what it held makes no
- * difference, and it ends as zeros, also where the call is refused.
- * Refuses 15, 9, 10; a refusal leaves *seal.
+ * Writes the seal of the text under the key and the draw to the first place of seal, and nothing beyond it. As bytes, a
+ * key is its first number and then its second, each with its highest byte first. The ring list is the caller's memory
+ * for subkeys: what it held makes no difference, and it ends as zeros, also where the call is refused.
+ * Refuses 15, 16 (seal_places is 0), 9, 10; a refusal leaves seal.
  */
 uint8_t hemmuzhan_seal(uint8_t field, uint8_t cipher, uint64_t key_first, uint64_t key_second, uint64_t draw,
                        const uint8_t *text, size_t text_length, uint64_t *ring, size_t ring_places,
-                       uint64_t *seal);
+                       uint64_t *seal, size_t seal_places);
 
 /*
  * Answers 0 if the seal is that of the text under the key and the draw. The ring list is as for hemmuzhan_seal.

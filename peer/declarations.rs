@@ -5,7 +5,7 @@ use std::collections::BTreeMap;
 use std::fs;
 use std::process::exit;
 
-const PROVED: &str = "crates/hemmuzhan/src";
+const PROVED: &str = "crates/hemmuzhan_c/src";
 const HEADER: &str = "include/hemmuzhan.h";
 const WRAPPER: &str = "bindings/rust/src/sys.rs";
 

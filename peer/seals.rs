@@ -29,10 +29,13 @@ fn bytes(pair: [u64; 2]) -> [u8; 16] {
 }
 
 impl Question {
-    /// The seal, or the refusal's number.
-    pub fn seal(&self) -> Result<u64, u8> {
+    /// The seal, where `places` places are lent for it, or the refusal's number.
+    pub fn seal(&self, places: usize) -> Result<u64, u8> {
         let field = Field::numbered(self.field).ok_or(15)?;
         let cipher = cipher_numbered(self.cipher).ok_or(15)?;
+        if places == 0 {
+            return Err(16);
+        }
         let first = |block| (u128::from_be_bytes(cipher(bytes(self.key), bytes(block))) >> 64) as u64;
         let most = self.ring.min(8) as u64;
         let ring: Vec<u64> = (0..most).map(|c| field.element(first([0, c]))).collect();
@@ -42,7 +45,7 @@ impl Question {
 
     /// 0 where the seal is the text's, and else the refusal's number.
     pub fn check(&self, seal: u64) -> u8 {
-        match self.seal() {
+        match self.seal(1) {
             Ok(right) if right == seal => 0,
             Ok(_) => 12,
             Err(number) => number,

@@ -29,18 +29,24 @@ fn key(q: &Question) -> Key {
     Key::from_bytes((u128::from(q.key[0]) << 64 | u128::from(q.key[1])).to_be_bytes())
 }
 
-fn seal(tally: &mut Tally, q: &Question) {
-    let expected = q.seal();
+/// The seal, where `places` places are lent for it.
+fn seal(tally: &mut Tally, q: &Question, places: usize) {
+    let expected = q.seal(places);
     let text = Guarded::new(FILLED_BYTE, &q.text);
-    let (mut ring, mut seal) = (Guarded::filled(FILLED, q.ring), Guarded::filled(FILLED, 1));
-    let answer = sys::seal(q.field, q.cipher, q.key, q.draw, text.list(), ring.list_mut(), &mut seal.list_mut()[0]);
-    let call = Call { name: "seal", asked: &asked(q) };
+    let (mut ring, mut seal) = (Guarded::filled(FILLED, q.ring), Guarded::filled(FILLED, places));
+    let answer = sys::seal(q.field, q.cipher, q.key, q.draw, text.list(), ring.list_mut(), seal.list_mut());
+    let call = Call { name: "seal", asked: &(asked(q), places) };
     call.same("its answer", answer, expected.err().unwrap_or(0));
-    call.agree("the seal", seal.holds(&[expected.unwrap_or(FILLED)]));
+    let mut written = vec![FILLED; places];
+    if let Ok(right) = expected {
+        written[0] = right;
+    }
+    call.agree("the seal", seal.holds(&written));
     call.agree("the ring afterwards", ring.holds(&vec![0; q.ring]));
     call.agree("the text afterwards", text.holds(&q.text));
     tally.count(call.name, answer);
     if let Some((field, cipher)) = suite(q) {
+        let expected = q.seal(1);
         let call = Call { name: "the wrapper's seal", asked: &asked(q) };
         let mut ring = Guarded::filled(FILLED, q.ring);
         let lent = hemmuzhan::seal_in(field, cipher, key(q), q.draw, &q.text, ring.list_mut());
@@ -48,7 +54,7 @@ fn seal(tally: &mut Tally, q: &Question) {
         call.agree("the ring afterwards", ring.holds(&vec![0; q.ring]));
         let own = hemmuzhan::seal(field, cipher, key(q), q.draw, &q.text);
         let roomy = Question { text: q.text.clone(), ring: 8, ..*q };
-        call.same("its answer", own.map_err(Refusal::number), roomy.seal());
+        call.same("its answer", own.map_err(Refusal::number), roomy.seal(1));
         tally.count(call.name, expected.err().unwrap_or(0));
     }
 }
@@ -80,8 +86,10 @@ fn check(tally: &mut Tally, q: &Question, seal: u64) {
 
 /// The seal, and checks of the right seal, of one with a bit turned over, and of any number.
 fn compare(tally: &mut Tally, q: &Question, chance: &mut Chance) {
-    seal(tally, q);
-    let right = q.seal().unwrap_or(0);
+    for places in [0, chance.one_of(&[1, 1, 1, 2, 3])] {
+        seal(tally, q, places);
+    }
+    let right = q.seal(1).unwrap_or(0);
     for number in [right, right ^ 1 << chance.below(64), chance.next()] {
         check(tally, q, number);
     }

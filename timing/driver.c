@@ -158,7 +158,8 @@ static struct outcome seal(uint8_t field, uint8_t cipher, size_t length, unsigne
     uint64_t number = 0;
     unsigned before = VALGRIND_COUNT_ERRORS;
     uint8_t answer =
-        hemmuzhan_seal(field, cipher, in.key[0], in.key[1], in.draw, in.text, in.length, in.ring, PLACES, &number);
+        hemmuzhan_seal(field, cipher, in.key[0], in.key[1], in.draw, in.text, in.length, in.ring, PLACES, &number,
+                       1);
     return told(before, answer, number, in, secret);
 }
 

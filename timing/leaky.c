@@ -73,7 +73,7 @@ uint8_t check_with_early_end(uint8_t field, uint8_t cipher, uint64_t key_first, 
 {
     uint64_t expected = 0;
     uint8_t answer =
-        hemmuzhan_seal(field, cipher, key_first, key_second, draw, text, text_length, ring, ring_places, &expected);
+        hemmuzhan_seal(field, cipher, key_first, key_second, draw, text, text_length, ring, ring_places, &expected, 1);
     if (answer != 0)
         return answer;
     for (int i = 0; i < 8; i++)

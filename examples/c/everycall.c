@@ -27,7 +27,7 @@ int main(void)
 
     answer = hemmuzhan_hash(HEMMUZHAN_B63, subkeys, 2, text, 8, &hash);
     printf("hash: %u, %" PRIu64 "\n", answer, hash);
-    answer = hemmuzhan_seal(HEMMUZHAN_M61, HEMMUZHAN_NOEKEON, 2, 3, 5, text, 8, ring, 3, &seal);
+    answer = hemmuzhan_seal(HEMMUZHAN_M61, HEMMUZHAN_NOEKEON, 2, 3, 5, text, 8, ring, 3, &seal, 1);
     printf("seal: %u, %016" PRIx64 ", ring %" PRIu64 " %" PRIu64 " %" PRIu64 "\n", answer, seal, ring[0], ring[1], ring[2]);
     answer = hemmuzhan_check(HEMMUZHAN_M61, HEMMUZHAN_NOEKEON, 2, 3, 5, text, 8, seal, ring, 3);
     printf("check: %u\n", answer);

@@ -112,9 +112,9 @@ pub fn seal_in(
     text: &[u8],
     ring: &mut [u64],
 ) -> Result<u64, Refusal> {
-    let mut seal = 0;
+    let mut seal = [0];
     refusal::answered(sys::seal(field.number(), cipher.number(), key.numbers(), draw, text, ring, &mut seal))?;
-    Ok(seal)
+    Ok(seal[0])
 }
 
 /// Whether the seal is that of the text under the key and the draw. Refuses 9, and 12 where it is another.

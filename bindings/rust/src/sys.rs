@@ -1,7 +1,7 @@
 //! The library's calls as they are, by numbers and slices: the answer is 0 or a refusal's number. All that is `unsafe` in
 //! the crate stands here.
 //!
-//! Nothing but this file and include/hemmuzhan.h ties the declarations to the proved functions of crates/hemmuzhan, so
+//! Nothing but this file and include/hemmuzhan.h ties the declarations to the proved exports of crates/hemmuzhan_c, so
 //! keep the three side by side.
 
 mod raw {
@@ -26,6 +26,7 @@ mod raw {
             ring: *mut u64,
             ring_places: usize,
             seal: *mut u64,
+            seal_places: usize,
         ) -> u8;
 
         pub fn hemmuzhan_check(
@@ -69,11 +70,12 @@ pub fn hash(field: u8, ring: &[u64], text: &[u8], hash: &mut u64) -> u8 {
     unsafe { raw::hemmuzhan_hash(field, ring.as_ptr(), ring.len(), text.as_ptr(), text.len(), hash) }
 }
 
-/// Writes the text's seal to `seal`. Refuses 15, 9, 10, and then leaves `seal`. The ring ends as zeros either way.
-pub fn seal(field: u8, cipher: u8, key: [u64; 2], draw: u64, text: &[u8], ring: &mut [u64], seal: &mut u64) -> u8 {
+/// Writes the text's seal to the first place of `seal`. Refuses 15, 16 (there is no place), 9, 10, and then leaves
+/// `seal`. The ring ends as zeros either way.
+pub fn seal(field: u8, cipher: u8, key: [u64; 2], draw: u64, text: &[u8], ring: &mut [u64], seal: &mut [u64]) -> u8 {
     let [first, second] = key;
-    // SAFETY: each address is that of a slice, with its length behind it, or of a number, and so is never null and is
-    // aligned. `ring` and `seal` are written, and a `&mut` overlaps nothing.
+    // SAFETY: each address is that of a slice, with its length behind it, and so is never null and is aligned. `ring` and
+    // `seal` are written, and a `&mut` overlaps nothing.
     unsafe {
         raw::hemmuzhan_seal(
             field,
@@ -85,7 +87,8 @@ pub fn seal(field: u8, cipher: u8, key: [u64; 2], draw: u64, text: &[u8], ring: 
             text.len(),
             ring.as_mut_ptr(),
             ring.len(),
-            seal,
+            seal.as_mut_ptr(),
+            seal.len(),
         )
     }
 }

@@ -50,11 +50,20 @@ plus_same a b c same =
     ∙ ap (λ (u : ℕ). (a % prime + u) % prime) same
     ∙ mod_plus_mod prime a c
 
--- 8 for 2 ^ 64, and 1 for 2 ^ 61; t is what stands for 8 h
-pub wide_same : (h m l t : ℕ) → means61 t ≡ means61 (h * 8)
+-- 8 for 2 ^ 64, and 1 for 2 ^ 61
+pub wide_same : (h m l s : ℕ) → means61 s ≡ means61 l
+    → means61 (h * 8 + m / 2 ^ 29 + m % 2 ^ 29 * 2 ^ 32 + s) ≡ means61 (h * 2 ^ 64 + m * 2 ^ 32 + l)
+wide_same h m l s same =
+    let top : ℕ = h * 8 + m / 2 ^ 29 + m % 2 ^ 29 * 2 ^ 32 in
+    plus_same top s l same
+    ∙ apart (h * 8 + m / 2 ^ 29) (top + l) (h * 2 ^ 64 + m * 2 ^ 32 + l) (omega arith)
+
+-- the same where t stands for 8 h
+pub sum_same : (h m l t : ℕ) → means61 t ≡ means61 (h * 8)
     → means61 (t + m / 2 ^ 29 + m % 2 ^ 29 * 2 ^ 32 + l) ≡ means61 (h * 2 ^ 64 + m * 2 ^ 32 + l)
-wide_same h m l t same =
+sum_same h m l t same =
     let rest : ℕ = m / 2 ^ 29 + m % 2 ^ 29 * 2 ^ 32 + l in
     ap means61 (omega arith)
     ∙ plus_same rest t (h * 8) same
-    ∙ apart (h * 8 + m / 2 ^ 29) (rest + h * 8) (h * 2 ^ 64 + m * 2 ^ 32 + l) (omega arith)
+    ∙ ap means61 (omega arith)
+    ∙ wide_same h m l l refl

@@ -4,7 +4,7 @@
 ghost use Rattle.std.specs.Prelude.{◌≡◌, ◌+◌, ◌*◌, ◌^◌, ◌≤◌};
 ghost use Rattle.field.specs.WeightedSums.{weighted_sum};
 ghost use Rattle.m61.specs.Mersenne.{m61, means61, prime};
-ghost use Rattle.m61.specs.Wide.{whole, Small};
+ghost use Rattle.m61.specs.Wide.{whole, Small, Few};
 ghost use Rattle.std.proofs.Common.{lit<, lit≤};
 ghost use Rattle.field.proofs.ModularLaws.{modulo_laws};
 
@@ -42,7 +42,7 @@ fn split(x: u64) -> Limbs
     }
 }
 
-// A number too wide for a word: high * 2^64 + middle * 2^32 + low.
+// A product of two words, too wide for one: high * 2^64 + middle * 2^32 + low.
 #[derive(Clone, Copy)]
 struct Wide {
     high: u64,
@@ -50,26 +50,51 @@ struct Wide {
     low: u64,
 }
 
-// A wide number that means the product of what the two mean. Its low part is folded, so that four such fit when they
-// are added part by part.
 fn wide_product(x: u64, y: u64) -> Wide
-    ensures same { means61 (whole result) ≡ m61.times (means61 x) (means61 y) }
-    ensures small { Small 1 result }
+    requires { (x ≤ 2 ^ 61 + 6) × (y ≤ 2 ^ 61 + 6) }
+    ensures whole { whole result ≡ x * y }
+    ensures small { Small result }
 {
-    let Limbs { high: a, low: b } = split(fold(x));
-    let Limbs { high: c, low: d } = split(fold(y));
+    let Limbs { high: a, low: b } = split(x);
+    let Limbs { high: c, low: d } = split(y);
     Wide {
         high: multiply(a, c),
         middle: multiply(a, d) + multiply(b, c),
-        low: fold(multiply(b, d)),
+        low: multiply(b, d),
     }
 }
 
-// The sum of four products, part by part.
+// A number that means the same as the wide one: 2^64 means 8, and 2^29 * 2^32 means 1.
+fn fold_wide(wide: Wide) -> u64
+    requires { Small wide }
+    ensures same { means61 result ≡ means61 (whole wide) }
+    ensures small { result ≤ 2 ^ 61 + 6 }
+{
+    let Wide { high, middle, low } = wide;
+    let middle_high = middle >> 29;
+    let middle_low = (middle & 0x1fff_ffff) << 32;
+    fold((high << 3) + middle_high + middle_low + fold(low))
+}
+
+// A wide number that means the product of what the two mean. Its low part is folded, so that four such fit when they
+// are added part by part.
+fn summand(x: u64, y: u64) -> Wide
+    ensures same { means61 (whole result) ≡ m61.times (means61 x) (means61 y) }
+    ensures few { Few 1 result }
+{
+    let Wide { high, middle, low } = wide_product(fold(x), fold(y));
+    Wide {
+        high,
+        middle,
+        low: fold(low),
+    }
+}
+
+// The sum of four summands, part by part.
 fn add_four(a: Wide, b: Wide, c: Wide, d: Wide) -> Wide
-    requires { (Small 1 a) × ((Small 1 b) × ((Small 1 c) × (Small 1 d))) }
+    requires { (Few 1 a) × ((Few 1 b) × ((Few 1 c) × (Few 1 d))) }
     ensures whole { whole result ≡ (whole a + whole b) + (whole c + whole d) }
-    ensures small { Small 4 result }
+    ensures few { Few 4 result }
 {
     Wide {
         high: a.high + b.high + c.high + d.high,
@@ -78,16 +103,16 @@ fn add_four(a: Wide, b: Wide, c: Wide, d: Wide) -> Wide
     }
 }
 
-// A number that means the same as the wide one: 2^64 means 8, and 2^29 * 2^32 means 1.
-fn fold_wide(wide: Wide) -> u64
-    requires { Small 4 wide }
-    ensures same { means61 result ≡ means61 (whole wide) }
+// A number that means the same as the sum of four summands.
+fn fold_sum(sum: Wide) -> u64
+    requires { Few 4 sum }
+    ensures same { means61 result ≡ means61 (whole sum) }
     ensures small { result ≤ 2 ^ 61 + 6 }
 {
-    let Wide { high, middle, low } = wide;
-    let middle_high = middle >> 29;
-    let middle_low = (middle & 0x1fff_ffff) << 32;
-    fold(fold(high << 3) + middle_high + middle_low + low)
+    let top = fold(sum.high << 3);
+    let middle_high = sum.middle >> 29;
+    let middle_low = (sum.middle & 0x1fff_ffff) << 32;
+    fold(top + middle_high + middle_low + sum.low)
 }
 
 pub struct M61;
@@ -112,7 +137,7 @@ impl Field for M61 {
         ensures element { means61 result ≡ m61.times (means61 a) (means61 b) }
         ensures small { result ≤ 2 ^ 61 + 6 }
     {
-        fold_wide(wide_product(a, b))
+        fold_wide(wide_product(fold(a), fold(b)))
     }
 
     // The products are added while they are wide, and folded once.
@@ -122,12 +147,7 @@ impl Field for M61 {
     {
         let [a, b, c, d] = numbers;
         let [s, t, u, v] = weights;
-        fold_wide(add_four(
-            wide_product(a, s),
-            wide_product(b, t),
-            wide_product(c, u),
-            wide_product(d, v),
-        ))
+        fold_sum(add_four(summand(a, s), summand(b, t), summand(c, u), summand(d, v)))
     }
 
     // A folded number is the prime or above exactly if one more reaches 2^61; then the carry is 1, and adding it and

@@ -1,21 +1,10 @@
 -- What std's methods on texts find, in the words of a line. Assumes nothing.
-use Rattle.std.proofs.Common.{◌≡◌, ℕ, zero, suc, ◌<◌, Bool, true, false, cond, ◌||◌, eqb, List, [], ◌∷◌, ◌++◌, length, get_or, drop, sym, refl, ap, ◌∙◌, arith, eq-eqb, ne_eqb}
+use Rattle.std.proofs.Common.{◌≡◌, ℕ, suc, ◌<◌, Bool, true, false, cond, ◌||◌, eqb, List, [], ◌∷◌, ◌++◌, length, get_or, sym, refl, ap, ◌∙◌, arith, eq-eqb, ne_eqb}
 use borrow.Author.Tests.{clash}
-use Rattle.std.specs.Char.{is_ascii_whitespace}
 use Rattle.std.specs.Str.{bytes_eq}
 use Rattle.std.proofs.lemmas.Slice.Eq.{bytes_eq-Decides}
 use Rattle.script.proofs.Numbered.{not-true}
-use Rattle.script.specs.Words.{skipped, has, before, behind}
-
--- n bytes of white space in front, and then none
-pub skipped_is : (s : List ℕ) (n : ℕ) → ((i : ℕ) → i < n → is_ascii_whitespace (get_or s i 0) ≡ true)
-    → (n < length s → is_ascii_whitespace (get_or s n 0) ≡ false) → skipped s ≡ drop n s
-skipped_is [] zero white dark = refl
-skipped_is [] (suc n) white dark = refl
-skipped_is (x ∷ xs) zero white dark = ap (λ b. cond b (skipped xs) (x ∷ xs)) (dark (omega arith))
-skipped_is (x ∷ xs) (suc n) white dark =
-    ap (λ b. cond b (skipped xs) (x ∷ xs)) (white 0 (omega arith))
-    ∙ skipped_is xs n (λ i less. white (suc i) (omega arith)) (λ less. dark (omega arith))
+use Rattle.script.specs.Words.{has, before, behind}
 
 abbrev pub Lacks : ℕ → List ℕ → Type 0
 Lacks c s = (i : ℕ) → i < length s → get_or s i 0 ≡ c → ⊥

@@ -15,6 +15,7 @@ use Rattle.script.specs.declared.reason.Reason.TheVariants as is
 use Rattle.script.specs.Names.{name_of}
 use Rattle.script.specs.Parts.{Part, field_part, cipher_part, places_part, grave_part, draw_part, key_part}
 use Rattle.script.specs.Parts.{seal_part, text_part, word_part}
+use Rattle.std.specs.Str.{trim}
 use Rattle.script.specs.Words.{skipped, is_empty}
 
 -- what a call asks for
@@ -97,5 +98,9 @@ whole (Err w) = Err w
 abbrev pub blank_line : List ℕ → Bool
 blank_line s = is_empty s || slice_index s 0 == 35
 
+-- what a line says that no white space surrounds
+abbrev pub says_bare : List ℕ → Result Said Reason
+says_bare s = cond (blank_line s) (Ok nothing) (whole (by_name (word_part s)))
+
 unfoldable pub says : List ℕ → Result Said Reason
-says s = cond (blank_line (skipped s)) (Ok nothing) (whole (by_name (word_part s)))
+says s = says_bare (trim s)

@@ -1,11 +1,10 @@
 -- The words of a line: they end at spaces. Assumes nothing.
 use Rattle.std.specs.Prelude.{ℕ, Bool, false, cond, ◌||◌, List, [], ◌∷◌, length, ◌==◌}
-use Rattle.std.specs.Char.{is_ascii_whitespace}
+use Rattle.std.specs.Str.{trim_start}
 
 -- without the white space in front
 abbrev pub skipped : List ℕ → List ℕ
-skipped [] = []
-skipped (x ∷ xs) = cond (is_ascii_whitespace x) (skipped xs) (x ∷ xs)
+skipped s = trim_start s
 
 -- whether the byte c is there, what stands before the first c, and what behind it
 abbrev pub has : ℕ → List ℕ → Bool

@@ -172,7 +172,8 @@ fn is_blank(line: &str) -> bool
 pub fn read_line(heap: Global, line: &str) -> Result<Line, Fault>
     ensures { Heard (λ l. said l) result (says line.now) }
 {
-    if is_blank(skip_white(line)) {
+    let line = line.trim();
+    if is_blank(line) {
         return Ok(Line::Blank);
     }
     let (read, rest) = read_parts(heap, line)?;

@@ -23,7 +23,7 @@ fn at_space(text: &str) -> (&str, &str)
 pub fn skip_white(text: &str) -> &str
     ensures { result.now ≡ skipped text.now }
 {
-    text.trim_ascii_start()
+    text.trim_start()
 }
 
 // The word at the front, and what follows it.

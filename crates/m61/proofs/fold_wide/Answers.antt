@@ -11,6 +11,6 @@ returns c =
     record {
       same = c.fold-2.ensures.same
           ∙ ap means61 (omega arith)
-          ∙ wide_same w.high w.middle w.low c.fold.result (c.fold.ensures.same ∙ ap means61 (omega arith));
+          ∙ wide_same w.high w.middle w.low c.fold.result c.fold.ensures.same;
       small = c.fold-2.ensures.small;
     }

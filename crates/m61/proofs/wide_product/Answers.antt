@@ -1,8 +1,6 @@
-use Rattle.std.proofs.Common.{◌≡◌, ℕ, ◌+◌, ◌-◌, ◌*◌, ◌^◌, ◌≤◌, sym, ap, ◌∙◌, ap₂, arith}
+use Rattle.std.proofs.Common.{ℕ, ◌-◌, ◌*◌, ◌^◌, ◌≤◌, sym, ◌∙◌, ap₂, arith}
 use Rattle.std.proofs.lemmas.Nat.{mul-le}
-use Rattle.field.proofs.Modular.{mod_mul_mod}
-use Rattle.m61.specs.Mersenne.{prime, m61, means61}
-use Rattle.m61.proofs.Folding.{parts_product, plus_same}
+use Rattle.m61.proofs.Folding.{parts_product}
 use Rattle.m61.proofs.wide_product.Goals as goal
 
 -- a high limb is at most 2 ^ 29, and a low one below 2 ^ 32
@@ -21,19 +19,12 @@ returns c =
     let b : ℕ = c.split-a.result.low in
     let u : ℕ = c.split-c.result.high in
     let v : ℕ = c.split-c.result.low in
-    let x : ℕ = c.fold.result in
-    let y : ℕ = c.fold-2.result in
     let ac = mul-le a u (2 ^ 29) (2 ^ 29) (omega arith) (omega arith) in
     let ad = cross a v (omega arith) (omega arith) in
     let cb = cross u b (omega arith) (omega arith) in
-    let top : ℕ = a * u * 2 ^ 64 + (a * v + b * u) * 2 ^ 32 in
-    let parts : top + b * v ≡ x * y =
-    sym (parts_product a b u v (2 ^ 32)) ∙ ap₂ (λ (s t : ℕ). s * t) c.split-a.ensures c.split-c.ensures in
     record {
-      same = ap means61 (omega arith)
-          ∙ plus_same top c.fold-3.result (b * v) (c.fold-3.ensures.same ∙ ap means61 c.multiply-4.ensures)
-          ∙ ap means61 parts
-          ∙ sym (mod_mul_mod prime x y)
-          ∙ ap₂ m61.times c.fold.ensures.same c.fold-2.ensures.same;
-      small = record { high = omega arith; middle = omega arith; low = omega arith };
+      whole = omega arith
+          ∙ sym (parts_product a b u v (2 ^ 32))
+          ∙ ap₂ (λ (x y : ℕ). x * y) c.split-a.ensures c.split-c.ensures;
+      small = record { high = omega arith; middle = omega arith };
     }

@@ -68,6 +68,26 @@ fn a_lent_ring_ends_as_zeros() {
 }
 
 #[test]
+fn no_place_for_the_seal_is_refused_behind_the_suite_and_before_the_text() {
+    let answer = |field, text: &[u8]| {
+        let mut ring = [9; 2];
+        let answer = sys::seal(field, 0, key().numbers(), 0, text, &mut ring, &mut []);
+        assert_eq!(ring, [0; 2]);
+        answer
+    };
+    assert_eq!(answer(2, TEXT), 15);
+    assert_eq!(answer(0, &[0; LONGEST_TEXT + 1]), 16);
+    assert_eq!(answer(0, TEXT), 16);
+}
+
+#[test]
+fn only_the_first_place_for_the_seal_is_written() {
+    let (mut ring, mut seal) = ([9; 1], [5; 3]);
+    assert_eq!(sys::seal(0, 0, key().numbers(), 0, TEXT, &mut ring, &mut seal), 0);
+    assert_eq!(seal, [SEAL, 5, 5]);
+}
+
+#[test]
 fn a_sheet_is_written_and_read() {
     let sheet = Sheet { grave: 7, draw: 258, seal: 3, text: b"AB" };
     let mut buffer = [9; 28];

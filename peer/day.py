@@ -218,7 +218,8 @@ class NoCall(Exception):
     pass
 
 
-WHITE = " \t\n\x0c\r"
+# Unicode's white space
+WHITE = "\t\n\x0b\x0c\r \x85\xa0\u1680" + "".join(map(chr, range(0x2000, 0x200B))) + "\u2028\u2029\u202f\u205f\u3000"
 HEX = "0123456789abcdefABCDEF"
 
 
@@ -307,8 +308,8 @@ class Day:
         return name, parts
 
     def answer(self, line):
-        start = line.lstrip(WHITE)
-        if not start or start[0] == "#":
+        line = line.strip(WHITE)
+        if not line or line[0] == "#":
             return None
         try:
             name, parts = self.parts(line)
@@ -341,7 +342,8 @@ def random_script(seed):
     keys = ["%032x" % pick.getrandbits(128) for _ in range(6)]
     odd = ["", "  ", "# a comment", "\t", "draw", "draw 7 8", "draw x", "Draw 7", "seal 7 0 abc -", 'seal 7 0 "a', "open 7 +" + 31 * "0",
            "ring 65", "ring +2", "draw +7", "book m61", "book m62 noekeon", "book b63 aes", "check 7 0 - 12", "owing 1", "void 7 -1",
-           "tell 65536", "tell 65535", " owing ", "draw\t7", "open 7 " + 31 * "0", "seal 7 99999999999999999999 -", "check 7 0 xy " + 16 * "0"]
+           "tell 65536", "tell 65535", " owing ", "draw\t7", "owing\r", "tell 7\t \xa0", "\u3000tell 7", "\x0btell \x857", "tell\u20037", "\u2028# a comment", "\u205f",
+           "owing \x1f", "\u200bowing", "tell 7\x1c", "open 7 " + 31 * "0", "seal 7 99999999999999999999 -", "check 7 0 xy " + 16 * "0"]
 
     def text():
         shape = pick.randrange(12)
@@ -407,7 +409,7 @@ def main():
         print("\n".join(random_script(int(sys.argv[2]))))
     else:
         day = Day()
-        for line in sys.stdin.read().split("\n")[:-1]:
+        for line in sys.stdin.buffer.read().decode().split("\n")[:-1]:
             answer = day.answer(line)
             if answer is not None:
                 print(answer)

@@ -218,7 +218,8 @@ class NoCall(Exception):
     pass
 
 
-WHITE = " \t\n\x0c\r"
+# Unicode's white space
+WHITE = "\t\n\x0b\x0c\r \x85\xa0\u1680\u2028\u2029\u202f\u205f\u3000" + "".join(map(chr, range(0x2000, 0x200b)))
 HEX = "0123456789abcdefABCDEF"
 
 
@@ -307,8 +308,8 @@ class Day:
         return name, parts
 
     def answer(self, line):
-        start = line.lstrip(WHITE)
-        if not start or start[0] == "#":
+        line = line.strip(WHITE)
+        if not line or line[0] == "#":
             return None
         try:
             name, parts = self.parts(line)
@@ -341,7 +342,7 @@ def random_script(seed):
     keys = ["%032x" % pick.getrandbits(128) for _ in range(6)]
     odd = ["", "  ", "# a comment", "\t", "draw", "draw 7 8", "draw x", "Draw 7", "seal 7 0 abc -", 'seal 7 0 "a', "open 7 +" + 31 * "0",
            "ring 65", "ring +2", "draw +7", "book m61", "book m62 noekeon", "book b63 aes", "check 7 0 - 12", "owing 1", "void 7 -1",
-           "tell 65536", "tell 65535", " owing ", "draw\t7", "open 7 " + 31 * "0", "seal 7 99999999999999999999 -", "check 7 0 xy " + 16 * "0"]
+           "tell 65536", "tell 65535", " owing ", "tell 7\t", "\u2003owing", "tell \u00a07\u3000", "draw\t7", "open 7 " + 31 * "0", "seal 7 99999999999999999999 -", "check 7 0 xy " + 16 * "0"]
 
     def text():
         shape = pick.randrange(12)

@@ -219,7 +219,7 @@ class NoCall(Exception):
 
 
 # Unicode's white space
-WHITE = "\t\n\x0b\x0c\r \x85\xa0\u1680" + "".join(map(chr, range(0x2000, 0x200B))) + "\u2028\u2029\u202f\u205f\u3000"
+WHITE = "\t\n\x0b\x0c\r \x85\xa0\u1680\u2028\u2029\u202f\u205f\u3000" + "".join(map(chr, range(0x2000, 0x200b)))
 HEX = "0123456789abcdefABCDEF"
 
 
@@ -342,8 +342,8 @@ def random_script(seed):
     keys = ["%032x" % pick.getrandbits(128) for _ in range(6)]
     odd = ["", "  ", "# a comment", "\t", "draw", "draw 7 8", "draw x", "Draw 7", "seal 7 0 abc -", 'seal 7 0 "a', "open 7 +" + 31 * "0",
            "ring 65", "ring +2", "draw +7", "book m61", "book m62 noekeon", "book b63 aes", "check 7 0 - 12", "owing 1", "void 7 -1",
-           "tell 65536", "tell 65535", " owing ", "draw\t7", "owing\r", "tell 7\t \xa0", "\u3000tell 7", "\x0btell \x857", "tell\u20037", "\u2028# a comment", "\u205f",
-           "owing \x1f", "\u200bowing", "tell 7\x1c", "open 7 " + 31 * "0", "seal 7 99999999999999999999 -", "check 7 0 xy " + 16 * "0"]
+           "tell 65536", "tell 65535", " owing ", "tell 7\t", "\u2003owing", "tell \u00a07\u3000", "draw\t7", "owing\r", "\x0btell \x857",
+           "tell\u20037", "\u2028# a comment", "\u205f", "owing \x1f", "\u200bowing", "tell 7\x1c", "open 7 " + 31 * "0", "seal 7 99999999999999999999 -", "check 7 0 xy " + 16 * "0"]
 
     def text():
         shape = pick.randrange(12)

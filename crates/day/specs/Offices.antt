@@ -26,12 +26,12 @@ use Rattle.day.specs.declared.answer.Answer.{Answer}
 use Rattle.day.specs.declared.answer.Answer.TheVariants as is
 use Rattle.day.specs.declared.office.Office.{Office}
 use Rattle.day.specs.declared.office.Office.TheVariants as over
-use Rattle.day.specs.Replies.{plain, drawn, sealed, voided, checked, accounted}
+use Rattle.day.specs.Replies.{plain_answer, drawn, sealed, voided, checked, accounted}
 
 -- the call was made at desk d with a ring of p places, and left d'; the answer is what the desk told
 abbrev pub Made : State → Ask → ℕ → Answer → State → Type 0
 Made d (open_it g k) p a d' =
-    (r : Result (Unit {0}) Refusal) × (a ≡ plain r) × PassedOn d (to_open g k) (plain_told r) d'
+    (r : Result (Unit {0}) Refusal) × (a ≡ plain_answer r) × PassedOn d (to_open g k) (plain_told r) d'
 Made d (draw_it g) p a d' = (r : Result ℕ Refusal) × (a ≡ drawn r) × Drawn d g r d'
 Made d (seal_it g n x) p a d' =
     (r : Option (Result ℕ Refusal)) × (a ≡ sealed r) × MatchOption r (Absent d g n d') (λ t. Sealed d g n x p t d')
@@ -42,9 +42,9 @@ Made d (check_it g n x s) p a d' =
     × (a ≡ checked r)
     × PassedOn d (to_check g (record { draw = n; text = x; seal = s }) p) (checked_told r) d'
 Made d (clear_it g) p a d' =
-    (r : Result (Unit {0}) Refusal) × (a ≡ plain r) × PassedOn d (to_clear g) (plain_told r) d'
+    (r : Result (Unit {0}) Refusal) × (a ≡ plain_answer r) × PassedOn d (to_clear g) (plain_told r) d'
 Made d (close_it g) p a d' =
-    (r : Result (Unit {0}) Refusal) × (a ≡ plain r) × PassedOn d (to_close g) (plain_told r) d'
+    (r : Result (Unit {0}) Refusal) × (a ≡ plain_answer r) × PassedOn d (to_close g) (plain_told r) d'
 Made d (tell_it g) p a d' =
     (r : Result Account Refusal)
     × (a ≡ accounted r)

@@ -6,9 +6,9 @@ use Rattle.graves.specs.declared.turns.Standing.{Standing}
 use Rattle.day.specs.declared.answer.Answer.{Answer}
 use Rattle.day.specs.declared.answer.Answer.TheVariants as is
 
-abbrev pub plain : Result (Unit {0}) Refusal → Answer
-plain (Ok u) = is.Done
-plain (Err w) = is.Refused w
+abbrev pub plain_answer : Result (Unit {0}) Refusal → Answer
+plain_answer (Ok u) = is.Done
+plain_answer (Err w) = is.Refused w
 
 abbrev pub drawn : Result ℕ Refusal → Answer
 drawn (Ok n) = is.Drawn n
@@ -21,7 +21,7 @@ sealed (Some (Err w)) = is.Refused w
 
 abbrev pub voided : Option (Result (Unit {0}) Refusal) → Answer
 voided None = is.NotInHand
-voided (Some r) = plain r
+voided (Some r) = plain_answer r
 
 abbrev pub checked : Result Standing Refusal → Answer
 checked (Ok v) = is.Standing v

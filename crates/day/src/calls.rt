@@ -14,7 +14,7 @@ use seal::{Cipher, Field};
 use std::alloc::AllocError;
 
 fn plain(told: Result<(), Refusal>) -> Answer
-    ensures { result ≡ reply.plain told }
+    ensures { result ≡ reply.plain_answer told }
 {
     match told {
         Ok(()) => Answer::Done,

@@ -11,6 +11,10 @@ PlaceOf g n hand (Some i) =
     × ((d : Draw) → slice_index_or hand i d ≡ draw_of g n)
 PlaceOf g n hand None = in_hand g n hand ≡ false
 
+-- it is the draw of that number at that grave
+abbrev pub Is : ℕ → ℕ → Draw → Type 0
+Is grave number d = (d.grave ≡ grave) × (d.number ≡ number)
+
 -- that draw taken out, with what is then left; or none, and the hand is left as it was
 abbrev pub Taken : ℕ → ℕ → List Draw → Option Draw → List Draw → Type 0
 Taken g n hand (Some d) left = (d ≡ draw_of g n) × (in_hand g n hand ≡ true) × (left ≡ without g n hand)

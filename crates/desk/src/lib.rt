@@ -1,7 +1,7 @@
 // A clerk's desk: a book, and the draws that it has handed out and that are neither sealed nor voided.
 #![tactic(auto)]
 
-ghost use Rattle.std.specs.Prelude.{◌≡◌, ◌<◌, [], reverse, length, replicate, vec_len, vec_capacity, MatchOption, MatchResult};
+ghost use Rattle.std.specs.Prelude.{◌≡◌, ◌<◌, [], reverse, length, replicate, vec_len, vec_capacity, MatchOption, MatchResult, IfSome, slice_index_or};
 ghost use Rattle.seal.specs.Seals.{sealing};
 ghost use Rattle.promise.specs.History.{History, to_open, to_check, to_clear, to_close};
 ghost use Rattle.promise.specs.Records.{new};
@@ -10,9 +10,10 @@ ghost use Rattle.promise.specs.Promise.{Promise};
 ghost use Rattle.graves.specs.Entries.{records};
 ghost use Rattle.graves.specs.Checks.{checked_told, claimed};
 ghost use Rattle.book.specs.Calls.{plain_told, account_told, tell_outcome, Owing};
+ghost use Rattle.book.specs.declared.calls.Draw.{Draw};
 ghost use Rattle.desk.specs.Desks.{state, PassedOn, Drawn, Sealed, Voided, Absent};
 ghost use Rattle.desk.specs.Endings.{all_voided, and_voids};
-ghost use Rattle.desk.specs.Places.{PlaceOf, Taken};
+ghost use Rattle.desk.specs.Places.{PlaceOf, Is, Taken};
 
 use book::{Account, Book, Claim, Draw, Returned, Standing};
 use refusal::Refusal;
@@ -26,7 +27,8 @@ pub struct Desk<F, C> {
 
 // Where the grave's first draw of this number lies.
 fn place_of(hand: &[Draw], grave: u16, number: u64) -> Option<usize>
-    ensures { PlaceOf grave number hand.now result }
+    ensures first { PlaceOf grave number hand.now result }
+    ensures there { IfSome result (λ i. (i < length hand.now) × ((d : Draw) → Is grave number (slice_index_or hand.now i d))) }
 {
     for (i, draw) in hand.iter().enumerate() {
         if u16::from(draw.grave()) == grave && draw.number() == number {
@@ -39,6 +41,7 @@ fn place_of(hand: &[Draw], grave: u16, number: u64) -> Option<usize>
 // Takes the draw out of the hand, if it is there. There is then room for it to come back.
 fn take(hand: &mut Vec<Draw>, grave: u16, number: u64) -> Option<Draw>
     ensures taken { Taken grave number hand.old.items result hand.new.items }
+    ensures it { IfSome result (λ d. Is grave number d) }
     ensures room { MatchOption result (hand.new ≡ hand.old) (λ _. vec_len hand.new < vec_capacity hand.new) }
 {
     let place = place_of(hand.as_slice(), grave, number)?;

@@ -1,6 +1,7 @@
-use Rattle.std.proofs.Common.{◌≡◌, ◌<◌, length, get_or, sym, ◌∙◌, arith}
+use Rattle.std.proofs.Common.{◌≡◌, ◌<◌, length, get_or, sym, ap, ◌∙◌, arith}
 use Rattle.std.proofs.lemmas.List.{get_or_default}
 use Rattle.book.specs.declared.calls.Draw.{Draw}
+use Rattle.desk.specs.Hands.{draw_of}
 use Rattle.desk.proofs.Looking.{is_it, it_is, other_grave, other_number}
 use Rattle.desk.proofs.Looking.{passed_none, passed_more, passed_all, found_in, found_out}
 use Rattle.desk.proofs.place_of.Goals as goal
@@ -37,12 +38,18 @@ returns-then-number c =
     let same_grave : here.grave ≡ c.args.grave =
     sym (c.from.ensures ∙ c.grave.ensures) ∙ c.if-from-grave.true in
     let same_number : here.number ≡ c.args.number = sym c.number.ensures ∙ c.if-number.true in
-    let it = is_it _ _ here same_grave same_number in (
-      within,
-      found_in _ _ hand i none within c.loop-i.invariant it,
-      found_out _ _ hand i none within c.loop-i.invariant it,
-      λ d. get_or_default hand i d none within ∙ it_is _ _ here same_grave same_number,
-    )
+    let it = is_it _ _ here same_grave same_number in
+    let is : (d : Draw) → get_or hand i d ≡ draw_of c.args.grave c.args.number =
+    λ d. get_or_default hand i d none within ∙ it_is _ _ here same_grave same_number in
+    record {
+      first = (
+        within,
+        found_in _ _ hand i none within c.loop-i.invariant it,
+        found_out _ _ hand i none within c.loop-i.invariant it,
+        is,
+      );
+      there = (within, λ d. (ap (λ (e : Draw). e.grave) (is d), ap (λ (e : Draw). e.number) (is d)));
+    }
 
 pub returns : goal.returns
-returns c = passed_all _ _ c.args.hand.now c.loop-i.i (omega arith) c.loop-i.invariant
+returns c = record { first = passed_all _ _ c.args.hand.now c.loop-i.i (omega arith) c.loop-i.invariant; there = tt }

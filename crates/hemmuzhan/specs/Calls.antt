@@ -3,7 +3,6 @@ use Rattle.std.specs.Prelude.{Bool, true, false, List, [], ◌∷◌, ℕ, ◌==
 use Rattle.refusal.specs.Outcomes.{Outcome, gives, refuses, ◌when◌, decided}
 use Rattle.cipher.specs.declared.Key.{Key}
 use Rattle.seal.specs.Sealing.{seal_outcome, check_outcome}
-use Rattle.hemmuzhan.specs.declared.suite.Suite.{Suite}
 use Rattle.hemmuzhan.specs.Suites.{suite_outcome, sealing_of}
 
 abbrev pub key_of : ℕ → ℕ → Key

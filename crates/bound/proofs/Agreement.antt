@@ -1,7 +1,7 @@
 -- Two functions of a key that are different polynomials agree at no more keys than their degree. Assumes nothing.
 use Rattle.std.proofs.Common.{◌≡◌, ℕ, suc, ◌≤◌, Bool, true, eqb, List, length, filter, sym, ◌∙◌, arith}
 use native.Mathlib.Decide.{dec_le}
-use Rattle.std.specs.List.{AllByRecursion as All}
+use Rattle.std.specs.List.{AllByRecursion}
 use Rattle.std.proofs.ByRecursion.{all_kept_by, kept_by_passes}
 use Rattle.std.proofs.lemmas.Bool.{eqb-true}
 use Rattle.field.specs.Model.{Model}
@@ -20,7 +20,7 @@ module _ (m : Model) {𝟘 𝟙 : El m} {plus times : El m → El m → El m} {n
   abbrev pub IsPolynomial : (ℕ → ℕ) → List (El m) → Type 0
   IsPolynomial f ps = (x : El m) → f x.0 ≡ (eval D ps x).0
 
-  pub agree_seldom : (keys : List ℕ) → Distinct keys → All (Element m) keys →
+  pub agree_seldom : (keys : List ℕ) → Distinct keys → AllByRecursion (Element m) keys →
       (d : ℕ) (f g : ℕ → ℕ) (ps qs : List (El m)) → IsPolynomial f ps → IsPolynomial g qs →
       length ps ≤ suc d → length qs ≤ suc d → (Zeros D (minus D ps qs) → ⊥) →
       sum (λ k. one_if (eqb (f k) (g k))) keys ≤ d
@@ -33,7 +33,7 @@ module _ (m : Model) {𝟘 𝟙 : El m} {plus times : El m → El m → El m} {n
       kept : List ℕ
       kept = filter agrees keys
 
-      kept_elements : All (Element m) kept
+      kept_elements : AllByRecursion (Element m) kept
       kept_elements = all_kept_by agrees (Element m) keys elements
 
       row : List (El m)
@@ -42,7 +42,7 @@ module _ (m : Model) {𝟘 𝟙 : El m} {plus times : El m → El m → El m} {n
       row_distinct : Distinct row
       row_distinct = els_distinct m kept kept_elements (distinct_kept agrees keys distinct)
 
-      row_agrees : All (λ x. eval D ps x ≡ eval D qs x) row
+      row_agrees : AllByRecursion (λ x. eval D ps x ≡ eval D qs x) row
       row_agrees =
           els_all m (λ k. agrees k ≡ true) (λ x. eval D ps x ≡ eval D qs x)
           (λ x e. same m _ _ (sym (f_is x) ∙ eqb-true _ _ e ∙ g_is x))

@@ -1,11 +1,11 @@
 -- Lists of different things, made from such lists. Assumes nothing.
 use Rattle.std.proofs.Common.{◌≡◌, Bool, true, false, cond, ◌≢◌, List, [], ◌∷◌, ◌++◌, map, filter}
-use Rattle.std.specs.List.{flat_map, AllByRecursion as All}
+use Rattle.std.specs.List.{flat_map, AllByRecursion}
 use Rattle.std.proofs.ByRecursion.{All-append, All-map, All-weaker, all_kept_by}
 use Rattle.bound.specs.Counting.{Distinct}
 use Rattle.bound.proofs.Each.{all_always, all_joined}
 
-distinct_append : {X : Type 0} (xs ys : List X) → Distinct xs → Distinct ys → All (λ x. All (λ y. x ≢ y) ys) xs →
+distinct_append : {X : Type 0} (xs ys : List X) → Distinct xs → Distinct ys → AllByRecursion (λ x. AllByRecursion (λ y. x ≢ y) ys) xs →
     Distinct (xs ++ ys)
 distinct_append [] ys dx dy apart = dy
 distinct_append (x ∷ xs) ys dx dy apart =
@@ -27,9 +27,9 @@ distinct_joined {X} {Y} {Z} g injective (x ∷ xs) ys dx dy =
     distinct_append (map (g x) ys) (flat_map (λ x. map (g x) ys) xs)
     (distinct_map (g x) (λ y y' e. (injective x x y y' e).1) ys dy)
     (distinct_joined g injective xs ys dx.1 dy)
-    (All-map (λ z. All (λ z'. z ≢ z') (flat_map (λ x. map (g x) ys) xs)) (g x) ys (all_always _ apart ys))
+    (All-map (λ z. AllByRecursion (λ z'. z ≢ z') (flat_map (λ x. map (g x) ys) xs)) (g x) ys (all_always _ apart ys))
   where
-    apart : (y : Y) → All (λ z. g x y ≢ z) (flat_map (λ x. map (g x) ys) xs)
+    apart : (y : Y) → AllByRecursion (λ z. g x y ≢ z) (flat_map (λ x. map (g x) ys) xs)
     apart y =
         all_joined (λ x'. x ≢ x') (λ y'. Unit) (λ z. g x y ≢ z) g (λ x' y' ne u e. ne (injective x x' y y' e).0)
         xs ys dx.0 (all_always (λ y'. Unit) (λ y'. tt) ys)
@@ -39,6 +39,6 @@ distinct_kept p [] d = tt
 distinct_kept {X} p (x ∷ xs) d =
     kept_or_not (p x) (filter p xs) (all_kept_by p (λ y. x ≢ y) xs d.0) (distinct_kept p xs d.1)
   where
-    kept_or_not : (b : Bool) (ys : List X) → All (λ y. x ≢ y) ys → Distinct ys → Distinct (cond b (x ∷ ys) ys)
+    kept_or_not : (b : Bool) (ys : List X) → AllByRecursion (λ y. x ≢ y) ys → Distinct ys → Distinct (cond b (x ∷ ys) ys)
     kept_or_not true ys apart dy = (apart, dy)
     kept_or_not false ys apart dy = dy

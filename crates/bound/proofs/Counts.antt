@@ -1,6 +1,6 @@
 -- At most as many rings pass a test as the sum over all rings says. Assumes nothing.
 use Rattle.std.proofs.Common.{◌≡◌, ℕ, ◌≤◌, Bool, true, List, length, filter, subst, le_trans}
-use Rattle.std.specs.List.{AllByRecursion as All}
+use Rattle.std.specs.List.{AllByRecursion}
 use Rattle.std.proofs.ByRecursion.{All-weaker}
 use Rattle.bound.specs.Counting.{AtMost}
 use Rattle.bound.proofs.Members.{Member, member_kept, no_longer}
@@ -15,7 +15,7 @@ at_most_up P j k le at_most xs distinct all = le_trans (at_most xs distinct all)
 
 -- a ring of c subkeys, each of them good, that passes
 abbrev pub Passes : (ℕ → Type 0) → ℕ → (List ℕ → Bool) → List ℕ → Type 0
-Passes Good c test r = (length r ≡ c) × All Good r × (test r ≡ true)
+Passes Good c test r = (length r ≡ c) × AllByRecursion Good r × (test r ≡ true)
 
 pub at_most_sum : (keys : List ℕ) (Good : ℕ → Type 0) → ((k : ℕ) → Good k → Member keys k) →
     (c : ℕ) (test : List ℕ → Bool) → AtMost (sum (λ r. one_if (test r)) (rings keys c)) (Passes Good c test)

@@ -1,6 +1,6 @@
 -- Two polynomials over a domain that agree at more places than their degree are the same. Assumes nothing.
 use Rattle.std.proofs.Common.{◌≡◌, ℕ, zero, suc, ◌≤◌, List, [], ◌∷◌, length, sym, ap, ◌∙◌, arith}
-use Rattle.std.specs.List.{AllByRecursion as All}
+use Rattle.std.specs.List.{AllByRecursion}
 use Rattle.std.proofs.ByRecursion.{All-weaker}
 use Rattle.bound.specs.Counting.{Distinct}
 use Rattle.bound.proofs.Domain.{Domain, plus_left_comm, zero_plus, plus_cancel, times_zero}
@@ -47,7 +47,7 @@ module _ {E : Type 0} {𝟘 𝟙 : E} {◌⊕◌ ◌⊗◌ : E → E → E} {⊖
       plus_cancel D (eval D qs x) (eval D (minus ps qs) x) 𝟘
       (D.plus_comm _ _ ∙ eval_minus x ps qs ∙ e ∙ sym (D.plus_zero (eval D qs x)))
 
-  pub same_coefficients : (xs ps qs : List E) → Distinct xs → All (λ x. eval D ps x ≡ eval D qs x) xs →
+  pub same_coefficients : (xs ps qs : List E) → Distinct xs → AllByRecursion (λ x. eval D ps x ≡ eval D qs x) xs →
       length ps ≤ length xs → length qs ≤ length xs → Zeros D (minus ps qs)
   same_coefficients xs ps qs distinct agree hp hq =
       zeros_from_roots D xs (minus ps qs) distinct

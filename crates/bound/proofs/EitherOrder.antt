@@ -1,7 +1,7 @@
 -- Rings of good subkeys under which two different texts share a hash, whichever text is longer. Assumes nothing.
 use Rattle.std.proofs.Common.{◌≡◌, ℕ, zero, suc, ◌-◌, ◌*◌, ◌^◌, ◌≤◌, Bool, eqb, ◌≢◌, List, length, sym, ◌∙◌, arith}
 use native.Mathlib.Decide.{dec_le}
-use Rattle.std.specs.List.{AllByRecursion as All}
+use Rattle.std.specs.List.{AllByRecursion}
 use Rattle.std.proofs.lemmas.List.{nil_from_length}
 use Rattle.std.proofs.lemmas.Bool.{eq-eqb}
 use Rattle.field.specs.Model.{Model}
@@ -19,7 +19,7 @@ use Rattle.bound.proofs.Longer.{widest, longer}
 
 -- a ring of c good subkeys under which the texts have the same hash
 abbrev pub Meeting : Model → (ℕ → Type 0) → List ℕ → List ℕ → ℕ → List ℕ → Type 0
-Meeting m Good a b c ring = ((length ring ≡ c) × All Good ring) × (hash_of m ring a ≡ hash_of m ring b)
+Meeting m Good a b c ring = ((length ring ≡ c) × AllByRecursion Good ring) × (hash_of m ring a ≡ hash_of m ring b)
 
 -- there are few of them, out of K keys, and fewer where c is 1
 abbrev pub FewMeetings : Model → (ℕ → Type 0) → ℕ → List ℕ → List ℕ → ℕ → Type 0
@@ -27,7 +27,7 @@ FewMeetings m Good K a b c =
     AtMost (2048 * K ^ (c - 1)) (Meeting m Good a b c) × (c ≡ 1 → AtMost (widest a b) (Meeting m Good a b c))
 
 module _ {m : Model} (F : FieldLaws m) (Z : OnlyZeroMakesZero m)
-    (keys : List ℕ) (distinct : Distinct keys) (elements : All (Element m) keys)
+    (keys : List ℕ) (distinct : Distinct keys) (elements : AllByRecursion (Element m) keys)
     (Good : ℕ → Type 0) (listed : (k : ℕ) → Good k → Member keys k) where
   at_most_meets : (a b : List ℕ) (c : ℕ) → AtMost (sum (meets m a b) (rings keys c)) (Meeting m Good a b c)
   at_most_meets a b c =

@@ -1,6 +1,6 @@
 -- A field's elements are a domain, where only a zero factor makes a zero product. Assumes nothing.
 use Rattle.std.proofs.Common.{◌≡◌, ℕ, suc, ◌≢◌, List, [], ◌∷◌, length, refl, ap, inl, inr, arith}
-use Rattle.std.specs.List.{AllByRecursion as All}
+use Rattle.std.specs.List.{AllByRecursion}
 use Rattle.field.specs.Model.{Model}
 use Rattle.field.specs.Laws.{Element, FieldLaws}
 pub use Rattle.field.proofs.Elements.{El, same, el, el_own, el_of, 𝟘, 𝟙, plus, times, neg}
@@ -29,22 +29,22 @@ module _ {m : Model} (F : FieldLaws m) where
   }
 
 -- numbers that are elements, as elements
-unfoldable pub els : (m : Model) (xs : List ℕ) → All (Element m) xs → List (El m)
+unfoldable pub els : (m : Model) (xs : List ℕ) → AllByRecursion (Element m) xs → List (El m)
 els m [] all = []
 els m (x ∷ xs) all = (x, all.0) ∷ els m xs all.1
 
-pub els_length : (m : Model) (xs : List ℕ) (all : All (Element m) xs) → length (els m xs all) ≡ length xs
+pub els_length : (m : Model) (xs : List ℕ) (all : AllByRecursion (Element m) xs) → length (els m xs all) ≡ length xs
 unfolding els
 els_length m [] all = refl
 els_length m (x ∷ xs) all = ap suc (els_length m xs all.1)
 
 pub els_all : (m : Model) (P : ℕ → Type 0) (Q : El m → Type 0) → ((x : El m) → P x.0 → Q x) →
-    (xs : List ℕ) (all : All (Element m) xs) → All P xs → All Q (els m xs all)
+    (xs : List ℕ) (all : AllByRecursion (Element m) xs) → AllByRecursion P xs → AllByRecursion Q (els m xs all)
 unfolding els
 els_all m P Q h [] all p = tt
 els_all m P Q h (x ∷ xs) all p = (h (x, all.0) p.0, els_all m P Q h xs all.1 p.1)
 
-pub els_distinct : (m : Model) (xs : List ℕ) (all : All (Element m) xs) → Distinct xs → Distinct (els m xs all)
+pub els_distinct : (m : Model) (xs : List ℕ) (all : AllByRecursion (Element m) xs) → Distinct xs → Distinct (els m xs all)
 unfolding els
 els_distinct m [] all d = tt
 els_distinct m (x ∷ xs) all d = (

@@ -1,6 +1,6 @@
 -- A text's hash, as the subkey at one place of the ring varies, is a polynomial in that subkey. Assumes nothing.
 use Rattle.std.proofs.Common.{◌≡◌, ℕ, ◌+◌, ◌*◌, ◌≤◌, ◌≢◌, List, ◌∷◌, length, get_or, ap, ◌∙◌, arith}
-use Rattle.std.specs.List.{AllByRecursion as All}
+use Rattle.std.specs.List.{AllByRecursion}
 use Rattle.field.specs.Model.{Model}
 use Rattle.field.specs.Laws.{Element, FieldLaws}
 use Rattle.hash.specs.Texts.{chunk_blocks, chunk_of}
@@ -48,7 +48,7 @@ module _ {m : Model} (F : FieldLaws m) (Z : OnlyZeroMakesZero m) (c : ℕ) (r : 
       elsewhere : (j : ℕ) → chunk_of j ≢ c → subkeys F (put c k.0 r) j ≡ rest j
       elsewhere j ne = ap (el F) (put_other c k.0 0 r (chunk_of j) place ne)
 
-  pub hash_polynomial : c ≤ length r → All (Element m) r → (text : List ℕ) → Text text → (i l : ℕ) → Cut text c i l →
+  pub hash_polynomial : c ≤ length r → AllByRecursion (Element m) r → (text : List ℕ) → Text text → (i l : ℕ) → Cut text c i l →
       (X : El m) → entry text ≡ X →
       IsPolynomial m (domain F Z) (λ k. hash_of m (put c k r) text) (coefficients text X i l)
   hash_polynomial place elements text t i l cut X start k =

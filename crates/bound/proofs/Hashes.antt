@@ -1,6 +1,6 @@
 -- The hash over the field's elements as a type. Assumes nothing.
 use Rattle.std.proofs.Common.{◌≡◌, ℕ, zero, suc, List, length, sym, refl, subst, ap₂, arith}
-use Rattle.std.specs.List.{AllByRecursion as All}
+use Rattle.std.specs.List.{AllByRecursion}
 use Rattle.field.specs.Model.{Model}
 use Rattle.field.specs.Laws.{Element, FieldLaws}
 use Rattle.hash.specs.Texts.{block, block_count, chunk_of}
@@ -18,7 +18,7 @@ module _ {m : Model} (F : FieldLaws m) where
   pub length_element : (text : List ℕ) → Text text → Element m (length text)
   length_element text t = omega (arith, t.0, F.many)
 
-  pub subkey_element : (ring : List ℕ) (j : ℕ) → All (Element m) ring → Element m (subkey ring j)
+  pub subkey_element : (ring : List ℕ) (j : ℕ) → AllByRecursion (Element m) ring → Element m (subkey ring j)
   subkey_element ring j elements =
       let zero_element : Element m 0 = omega (arith, F.many) in
       all_get_or_default (Element m) ring (chunk_of j) 0 elements zero_element
@@ -31,7 +31,7 @@ module _ {m : Model} (F : FieldLaws m) where
   subkeys ring j = el F (subkey ring j)
 
 module _ {m : Model} (F : FieldLaws m) (Z : OnlyZeroMakesZero m) where
-  run_value : (ring text : List ℕ) → All (Element m) ring → Text text → (n : ℕ) →
+  run_value : (ring text : List ℕ) → AllByRecursion (Element m) ring → Text text → (n : ℕ) →
       after m ring text n ≡ (run (domain F Z) (blocks F text) (subkeys F ring) n).0
   unfolding run
   run_value ring text elements t zero = refl
@@ -44,9 +44,9 @@ module _ {m : Model} (F : FieldLaws m) (Z : OnlyZeroMakesZero m) where
   hash_el ring text =
       plus F (run (domain F Z) (blocks F text) (subkeys F ring) (block_count text)) (el F (length text))
 
-  pub hash_value : (ring text : List ℕ) → All (Element m) ring → Text text → hash_of m ring text ≡ (hash_el ring text).0
+  pub hash_value : (ring text : List ℕ) → AllByRecursion (Element m) ring → Text text → hash_of m ring text ≡ (hash_el ring text).0
   hash_value ring text elements t =
       ap₂ m.plus (run_value ring text elements t (block_count text)) (sym (el_own F _ (length_element F text t)))
 
-  pub hash_element : (ring text : List ℕ) → All (Element m) ring → Text text → Element m (hash_of m ring text)
+  pub hash_element : (ring text : List ℕ) → AllByRecursion (Element m) ring → Text text → Element m (hash_of m ring text)
   hash_element ring text elements t = subst (Element m) (sym (hash_value ring text elements t)) (hash_el ring text).1

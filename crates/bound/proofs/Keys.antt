@@ -1,12 +1,12 @@
 -- Numbers in a row as the keys that subkeys are taken from. Assumes nothing.
 use Rattle.std.proofs.Common.{ℕ, zero, suc, ◌+◌, ◌<◌, ◌≤◌, ◌≢◌, inl, inr, arith}
 use native.Mathlib.Decide.{ℕ_discrete}
-use Rattle.std.specs.List.{range_with_len, AllByRecursion as All}
+use Rattle.std.specs.List.{range_with_len, AllByRecursion}
 use Rattle.std.proofs.ByRecursion.{All-weaker}
 use Rattle.bound.specs.Counting.{Distinct}
 use Rattle.bound.proofs.Members.{Member}
 
-pub counting_within : (a n : ℕ) → All (λ k. (a ≤ k) × (k < a + n)) (range_with_len a n)
+pub counting_within : (a n : ℕ) → AllByRecursion (λ k. (a ≤ k) × (k < a + n)) (range_with_len a n)
 counting_within a zero = tt
 counting_within a (suc n) = (
   (omega arith, omega arith),

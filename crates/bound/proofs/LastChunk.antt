@@ -1,6 +1,6 @@
 -- A text's hash in the subkey of its last chunk has the text's length for its constant coefficient. Assumes nothing.
 use Rattle.std.proofs.Common.{◌≡◌, ℕ, suc, ◌*◌, ◌≤◌, eqb, ◌≢◌, List, [], ◌∷◌, length, sym, refl, ap, ◌∙◌, subst, zero-le, arith}
-use Rattle.std.specs.List.{AllByRecursion as All}
+use Rattle.std.specs.List.{AllByRecursion}
 use Rattle.field.specs.Model.{Model}
 use Rattle.field.specs.Laws.{Element, FieldLaws}
 use Rattle.hash.specs.Texts.{chunk_blocks, chunk_count}
@@ -33,7 +33,7 @@ module _ {m : Model} (F : FieldLaws m) (Z : OnlyZeroMakesZero m) where
           let only = ap (plus F (el F v)) (times_zero (domain F Z) x) ∙ (domain F Z).plus_zero (el F v) in
           sym (el_own F v element) ∙ sym (ap (λ (y : El m). y.0) only)
 
-  pub hash_has_constant : (c : ℕ) (r : List ℕ) → c ≤ length r → All (Element m) r → (text : List ℕ) → Text text →
+  pub hash_has_constant : (c : ℕ) (r : List ℕ) → c ≤ length r → AllByRecursion (Element m) r → (text : List ℕ) → Text text →
       chunk_count text ≡ suc c → (d : ℕ) → fullest text ≤ d →
       HasConstant (λ k. hash_of m (put c k r) text) (length text) d
   hash_has_constant c r place elements text t e d most =
@@ -62,7 +62,7 @@ module _ {m : Model} (F : FieldLaws m) (Z : OnlyZeroMakesZero m) where
           let degree = others_length (domain F Z) (blocks F text) (rest F Z c r) X (chunk_blocks * c) (suc i) 0 in
           omega (arith, degree, cut_fullest text c (suc i) 0 cut)
 
-  pub constants_differ : (keys : List ℕ) → Distinct keys → All (Element m) keys → (d : ℕ) (f g : ℕ → ℕ) (v w : ℕ) →
+  pub constants_differ : (keys : List ℕ) → Distinct keys → AllByRecursion (Element m) keys → (d : ℕ) (f g : ℕ → ℕ) (v w : ℕ) →
       Element m v → Element m w → v ≢ w → HasConstant f v d → HasConstant g w d →
       sum (λ k. one_if (eqb (f k) (g k))) keys ≤ d
   unfolding minus

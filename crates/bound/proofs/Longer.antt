@@ -2,7 +2,7 @@
 use Rattle.std.proofs.Common.{◌≡◌, ℕ, suc, ◌+◌, ◌*◌, ◌^◌, ◌≤◌, max, ◌≢◌, List, length, ap, ◌∙◌, mul-le-mul_right, zero-mul, mul-one, arith}
 use native.Mathlib.Nat.{pow-zero}
 use native.Mathlib.Decide.{ℕ_discrete}
-use Rattle.std.specs.List.{AllByRecursion as All}
+use Rattle.std.specs.List.{AllByRecursion}
 use Rattle.field.specs.Model.{Model}
 use Rattle.field.specs.Laws.{Element, FieldLaws}
 use Rattle.hash.specs.Texts.{chunk_count}
@@ -21,7 +21,7 @@ abbrev pub widest : List ℕ → List ℕ → ℕ
 widest a b = max (fullest a) (fullest b)
 
 module _ {m : Model} (F : FieldLaws m) (Z : OnlyZeroMakesZero m)
-    (keys : List ℕ) (distinct : Distinct keys) (elements : All (Element m) keys)
+    (keys : List ℕ) (distinct : Distinct keys) (elements : AllByRecursion (Element m) keys)
     (a b : List ℕ) (ta : Text a) (tb : Text b) (a≢b : a ≢ b)
     (c : ℕ) (ca : chunk_count a ≡ suc c) (cb : chunk_count b ≤ suc c) where
   -- over c + 1 subkeys, and over one

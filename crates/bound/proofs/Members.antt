@@ -1,6 +1,6 @@
 -- A list of different members of another is no longer than that. Assumes nothing.
 use Rattle.std.proofs.Common.{◌≡◌, suc, ◌≤◌, Bool, true, false, cond, ◌≢◌, ◌⊎◌, List, [], ◌∷◌, ◌++◌, map, length, filter, sym, refl, ap, ◌∙◌, inl, inr, zero-le, arith}
-use Rattle.std.specs.List.{AllByRecursion as All}
+use Rattle.std.specs.List.{AllByRecursion}
 use Rattle.bound.specs.Counting.{Distinct}
 
 abbrev pub Member : {X : Type 0} → List X → X → Type 0
@@ -50,12 +50,12 @@ others_stay x (y ∷ ys) (inl e) z x≢z (inr m) = m
 others_stay x (y ∷ ys) (inr h) z x≢z (inl q) = inl q
 others_stay x (y ∷ ys) (inr h) z x≢z (inr m) = inr (others_stay x ys h z x≢z m)
 
-pub no_longer : {X : Type 0} (xs ys : List X) → Distinct xs → All (Member ys) xs → length xs ≤ length ys
+pub no_longer : {X : Type 0} (xs ys : List X) → Distinct xs → AllByRecursion (Member ys) xs → length xs ≤ length ys
 no_longer {X} [] ys distinct members = zero-le
 no_longer {X} (x ∷ xs) ys distinct members =
     let rest = all_stay xs distinct.0 members.1 in
     omega (arith, no_longer xs (without x ys members.0) distinct.1 rest, length_without x ys members.0)
   where
-    all_stay : (zs : List X) → All (λ z. x ≢ z) zs → All (Member ys) zs → All (Member (without x ys members.0)) zs
+    all_stay : (zs : List X) → AllByRecursion (λ z. x ≢ z) zs → AllByRecursion (Member ys) zs → AllByRecursion (Member (without x ys members.0)) zs
     all_stay [] differ ms = tt
     all_stay (z ∷ zs) differ ms = (others_stay x ys members.0 z differ.0 ms.0, all_stay zs differ.1 ms.1)

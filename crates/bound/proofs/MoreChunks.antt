@@ -1,7 +1,7 @@
 -- Two texts of which the first has more chunks: the subkey of its last chunk tells them apart, but for the rings under
 -- which the other's hash is the first one's length, and those are few. Assumes nothing.
 use Rattle.std.proofs.Common.{◌≡◌, ℕ, zero, suc, ◌+◌, ◌*◌, ◌^◌, ◌<◌, ◌≤◌, Bool, true, false, eqb, ◌≢◌, List, length, sym, refl, ap, ◌∙◌, ap₂, zero-le, le_refl, mul-le-mul_right, mul_assoc, pow-suc, zero-mul, arith}
-use Rattle.std.specs.List.{AllByRecursion as All}
+use Rattle.std.specs.List.{AllByRecursion}
 use Rattle.std.proofs.lemmas.List.{nil_from_length}
 use Rattle.std.proofs.lemmas.Bool.{eqb-false, ne_eqb}
 use Rattle.field.specs.Model.{Model}
@@ -35,11 +35,11 @@ hash_unused m c k r text place few =
     (after_same m (put c k r) r text (block_count text) (λ j h. put_before c k r (chunk_of j) place (omega arith)))
 
 module _ {m : Model} (F : FieldLaws m) (Z : OnlyZeroMakesZero m)
-    (keys : List ℕ) (distinct : Distinct keys) (elements : All (Element m) keys) where
+    (keys : List ℕ) (distinct : Distinct keys) (elements : AllByRecursion (Element m) keys) where
   -- the text's hash is seldom v, as the subkey of its last chunk varies
   hash_seldom : (text : List ℕ) → Text text → (v : ℕ) → Element m v → length text ≢ v →
       (c : ℕ) → chunk_count text ≡ suc c → (d : ℕ) → fullest text ≤ d →
-      (r : List ℕ) → c ≤ length r → All (Element m) r → sum (λ k. equals m text v (put c k r)) keys ≤ d
+      (r : List ℕ) → c ≤ length r → AllByRecursion (Element m) r → sum (λ k. equals m text v (put c k r)) keys ≤ d
   hash_seldom text t v element ne c e d most r place er =
       constants_differ F Z keys distinct elements d (λ k. hash_of m (put c k r) text) (λ k. v)
       (length text) v (length_element F text t) element ne
@@ -52,7 +52,7 @@ module _ {m : Model} (F : FieldLaws m) (Z : OnlyZeroMakesZero m)
   more_chunks a b ta tb c ca cb d da =
       place_bound keys (Element m) elements c c d (le_refl c) (meets m a b) (equals m b (length a)) each
     where
-      each : (r : List ℕ) → length r ≡ c → All (Element m) r →
+      each : (r : List ℕ) → length r ≡ c → AllByRecursion (Element m) r →
           sum (λ k. meets m a b (put c k r)) keys ≤ d + equals m b (length a) r * length keys
       each r l er = go (eqb w (length a)) refl
         where

@@ -1,6 +1,6 @@
 -- A ring with one more subkey put in, and how it reads. Assumes nothing.
 use Rattle.std.proofs.Common.{◌≡◌, ℕ, zero, suc, ◌<◌, ◌≤◌, ◌≢◌, List, [], ◌∷◌, length, get_or, refl, ap, arith}
-use Rattle.std.specs.List.{AllByRecursion as All}
+use Rattle.std.specs.List.{AllByRecursion}
 
 -- the ring with k put in at place c
 unfoldable pub put : ℕ → ℕ → List ℕ → List ℕ
@@ -8,7 +8,7 @@ put zero k r = k ∷ r
 put (suc c) k [] = k ∷ []
 put (suc c) k (x ∷ r) = x ∷ put c k r
 
-pub put_all : (P : ℕ → Type 0) (c k : ℕ) (r : List ℕ) → P k → All P r → All P (put c k r)
+pub put_all : (P : ℕ → Type 0) (c k : ℕ) (r : List ℕ) → P k → AllByRecursion P r → AllByRecursion P (put c k r)
 unfolding put
 put_all P zero k r p all = (p, all)
 put_all P (suc c) k [] p all = (p, tt)

@@ -1,7 +1,7 @@
--- All rings of c subkeys that are taken from a list of keys, and sums over them. Assumes nothing.
+-- AllByRecursion rings of c subkeys that are taken from a list of keys, and sums over them. Assumes nothing.
 use Rattle.std.proofs.Common.{◌≡◌, ℕ, zero, suc, ◌*◌, ◌^◌, List, [], ◌∷◌, map, length, sym, refl, ap, ◌∙◌, inl, inr, add-zero, mul_assoc, one-mul, pow-suc, mul-one, arith}
 use native.Mathlib.Nat.{pow-zero}
-use Rattle.std.specs.List.{flat_map, AllByRecursion as All}
+use Rattle.std.specs.List.{flat_map, AllByRecursion}
 use Rattle.bound.specs.Counting.{Distinct}
 use Rattle.bound.proofs.Each.{all_joined}
 use Rattle.bound.proofs.Apart.{distinct_joined}
@@ -13,11 +13,11 @@ module _ (keys : List ℕ) where
   rings zero = [] ∷ []
   rings (suc c) = flat_map (λ k. map (λ r. k ∷ r) (rings c)) keys
 
-  pub rings_all : (P : ℕ → Type 0) → All P keys → (c : ℕ) → All (λ r. (length r ≡ c) × All P r) (rings c)
+  pub rings_all : (P : ℕ → Type 0) → AllByRecursion P keys → (c : ℕ) → AllByRecursion (λ r. (length r ≡ c) × AllByRecursion P r) (rings c)
   unfolding rings
   rings_all P all zero = ((refl, tt), tt)
   rings_all P all (suc c) =
-      all_joined P (λ r. (length r ≡ c) × All P r) (λ r. (length r ≡ suc c) × All P r) (λ k r. k ∷ r)
+      all_joined P (λ r. (length r ≡ c) × AllByRecursion P r) (λ r. (length r ≡ suc c) × AllByRecursion P r) (λ k r. k ∷ r)
       (λ k r p h. (ap suc h.0, (p, h.1))) keys (rings c) all (rings_all P all c)
 
   pub rings_distinct : Distinct keys → (c : ℕ) → Distinct (rings c)
@@ -26,7 +26,7 @@ module _ (keys : List ℕ) where
   rings_distinct distinct (suc c) =
       distinct_joined (λ k r. k ∷ r) (λ k k' r r' e. (cc, cc)) keys (rings c) distinct (rings_distinct distinct c)
 
-  pub rings_member : (c : ℕ) (r : List ℕ) → length r ≡ c → All (Member keys) r → Member (rings c) r
+  pub rings_member : (c : ℕ) (r : List ℕ) → length r ≡ c → AllByRecursion (Member keys) r → Member (rings c) r
   unfolding rings
   rings_member zero [] e members = inl refl
   rings_member zero (k ∷ r) e members = absurd (omega arith)

@@ -1,6 +1,6 @@
 -- Over a field of N elements there are N ^ c rings of c subkeys. Assumes nothing.
 use Rattle.std.proofs.Common.{◌≡◌, ℕ, ◌^◌, ◌≤◌, List, length, ap, ◌∙◌, subst, arith}
-use Rattle.std.specs.List.{range_with_len, AllByRecursion as All}
+use Rattle.std.specs.List.{range_with_len, AllByRecursion}
 use Rattle.std.proofs.lemmas.List.FromFn.{length-range_with_len}
 use Rattle.std.proofs.ByRecursion.{All-weaker}
 use Rattle.field.specs.Model.{Model}
@@ -15,7 +15,7 @@ module _ (m : Model) (c : ℕ) where
   all_keys : List ℕ
   all_keys = range_with_len 0 m.size
 
-  all_keys_below : All (Element m) all_keys
+  all_keys_below : AllByRecursion (Element m) all_keys
   unfolding all_keys
   all_keys_below = All-weaker _ (Element m) (λ k h. omega arith) all_keys (counting_within 0 m.size)
 

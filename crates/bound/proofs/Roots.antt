@@ -1,6 +1,6 @@
 -- A nonzero polynomial over a domain has no more roots than its degree. Assumes nothing.
 use Rattle.std.proofs.Common.{◌≡◌, suc, ◌≤◌, ◌≢◌, List, [], ◌∷◌, length, sym, refl, ap, ◌∙◌, inl, inr, arith}
-use Rattle.std.specs.List.{AllByRecursion as All}
+use Rattle.std.specs.List.{AllByRecursion}
 use Rattle.bound.specs.Counting.{Distinct}
 use Rattle.bound.proofs.Domain.{Domain, plus_left_comm, times_left_comm, plus_cancel, times_zero, times_cancel}
 
@@ -13,7 +13,7 @@ module _ {E : Type 0} {𝟘 𝟙 : E} {◌⊕◌ ◌⊗◌ : E → E → E} {⊖
   eval (c ∷ cs) x = c ⊕ x ⊗ eval cs x
 
   abbrev pub Zeros : List E → Type 0
-  Zeros cs = All (λ c. c ≡ 𝟘) cs
+  Zeros cs = AllByRecursion (λ c. c ≡ 𝟘) cs
 
   -- the quotient of x p(x) - r p(r) by x - r, where p is the polynomial of the coefficients cs
   quotient : E → List E → List E
@@ -63,8 +63,8 @@ module _ {E : Type 0} {𝟘 𝟙 : E} {◌⊕◌ ◌⊗◌ : E → E → E} {⊖
       products : r ⊗ Q ≡ x ⊗ Q
       products = plus_cancel D (r ⊗ eval cs r) (r ⊗ Q) (x ⊗ Q) (ap (λ w. w ⊕ r ⊗ Q) values ∙ divided r x cs)
 
-  other_roots : (r c : E) (cs : List E) → eval (c ∷ cs) r ≡ 𝟘 → (xs : List E) → All (λ x. r ≢ x) xs →
-      All (λ x. eval (c ∷ cs) x ≡ 𝟘) xs → All (λ x. eval (quotient r cs) x ≡ 𝟘) xs
+  other_roots : (r c : E) (cs : List E) → eval (c ∷ cs) r ≡ 𝟘 → (xs : List E) → AllByRecursion (λ x. r ≢ x) xs →
+      AllByRecursion (λ x. eval (c ∷ cs) x ≡ 𝟘) xs → AllByRecursion (λ x. eval (quotient r cs) x ≡ 𝟘) xs
   other_roots r c cs at_r [] others roots = tt
   other_roots r c cs at_r (x ∷ xs) others roots =
       (another_root r x c cs at_r roots.0 others.0, other_roots r c cs at_r xs others.1 roots.1)
@@ -87,7 +87,7 @@ module _ {E : Type 0} {𝟘 𝟙 : E} {◌⊕◌ ◌⊗◌ : E → E → E} {⊖
       (sym (only_constant r c cs (eval_zeros r cs zs)) ∙ z.0, zs)
 
   -- as many different roots as coefficients: then the coefficients are zero
-  pub zeros_from_roots : (xs cs : List E) → Distinct xs → All (λ x. eval cs x ≡ 𝟘) xs → length cs ≤ length xs →
+  pub zeros_from_roots : (xs cs : List E) → Distinct xs → AllByRecursion (λ x. eval cs x ≡ 𝟘) xs → length cs ≤ length xs →
       Zeros cs
   zeros_from_roots xs [] distinct roots many = tt
   zeros_from_roots [] (c ∷ cs) distinct roots many = absurd (omega arith)

@@ -1,7 +1,7 @@
 -- Two different texts of one length: the subkey of the first chunk that differs tells them apart, but for the rings
 -- with a zero subkey elsewhere. Assumes nothing.
 use Rattle.std.proofs.Common.{◌≡◌, ℕ, zero, suc, ◌+◌, ◌-◌, ◌*◌, ◌^◌, ◌<◌, ◌≤◌, eqb, ◌≢◌, List, length, get_or, sym, refl, ap, ◌∙◌, subst, arith}
-use Rattle.std.specs.List.{AllByRecursion as All}
+use Rattle.std.specs.List.{AllByRecursion}
 use Rattle.std.proofs.ByRecursion.{All-get_or}
 use Rattle.field.specs.Model.{Model}
 use Rattle.field.specs.Laws.{Element, FieldLaws}
@@ -28,7 +28,7 @@ use Rattle.bound.proofs.Meets.{meets}
 
 module _ {m : Model} (F : FieldLaws m) (Z : OnlyZeroMakesZero m) where
   -- the subkeys behind chunk c are not zero, if none of the ring is
-  rest_nonzero : (c : ℕ) (r : List ℕ) → c ≤ length r → All (Element m) r → All (λ k. k ≢ 0) r →
+  rest_nonzero : (c : ℕ) (r : List ℕ) → c ≤ length r → AllByRecursion (Element m) r → AllByRecursion (λ k. k ≢ 0) r →
       (n : ℕ) → c < chunk_of n → chunk_of n ≤ length r → rest F Z c r n ≢ 𝟘 F
   rest_nonzero c r place elements nonzero n low high z =
       All-get_or (λ k. k ≢ 0) r q 0 (omega arith) nonzero
@@ -44,12 +44,12 @@ module _ {m : Model} (F : FieldLaws m) (Z : OnlyZeroMakesZero m) where
       at = omega arith
 
 module _ {m : Model} (F : FieldLaws m) (Z : OnlyZeroMakesZero m)
-    (keys : List ℕ) (distinct : Distinct keys) (elements : All (Element m) keys)
+    (keys : List ℕ) (distinct : Distinct keys) (elements : AllByRecursion (Element m) keys)
     (a b : List ℕ) (ta : Text a) (tb : Text b) (same_length : length a ≡ length b) where
   -- chunk c is the first that differs, and no other subkey is zero
   meets_seldom : (c i l : ℕ) → Cut a c i l → ((j : ℕ) → j < chunk_blocks * c → block a j ≡ block b j) →
       (j : ℕ) → j < i → block a (chunk_blocks * c + j) ≢ block b (chunk_blocks * c + j) →
-      (r : List ℕ) → suc (length r) ≡ chunk_count a → c ≤ length r → All (Element m) r → All (λ k. k ≢ 0) r →
+      (r : List ℕ) → suc (length r) ≡ chunk_count a → c ≤ length r → AllByRecursion (Element m) r → AllByRecursion (λ k. k ≢ 0) r →
       sum (λ k. meets m a b (put c k r)) keys ≤ i
   unfolding minus
   meets_seldom c i l cut before j j<i differ r lr place er nonzero =
@@ -108,7 +108,7 @@ module _ {m : Model} (F : FieldLaws m) (Z : OnlyZeroMakesZero m)
       at : j ≡ chunk_blocks * c + place
       at = omega arith
 
-      each : (r : List ℕ) → length r ≡ n → All (Element m) r →
+      each : (r : List ℕ) → length r ≡ n → AllByRecursion (Element m) r →
           sum (λ k. meets m a b (put c k r)) keys ≤ d + zeros r * length keys
       each r lr er = go (zeros r) refl
         where

@@ -1,7 +1,7 @@
 -- Sums over a list: added, multiplied, compared, and put in another order. Assumes nothing.
 use Rattle.std.proofs.Common.{◌≡◌, ℕ, ◌+◌, ◌*◌, ◌≤◌, Bool, true, false, cond, List, [], ◌∷◌, ◌++◌, map, length, filter, sym, refl, ap, ◌∙◌, zero-le, le_refl, add-mul, mul-zero, zero-mul, arith}
 use mathlib.Core.Path.{fun_ext}
-use Rattle.std.specs.List.{flat_map, AllByRecursion as All}
+use Rattle.std.specs.List.{flat_map, AllByRecursion}
 
 abbrev pub sum : {X : Type 0} → (X → ℕ) → List X → ℕ
 sum f [] = 0
@@ -23,7 +23,7 @@ sum_const n [] = sym (mul-zero n)
 sum_const n (x ∷ xs) = omega (arith, sum_const n xs)
 
 pub sum_le : {X : Type 0} (P : X → Type 0) (f g : X → ℕ) → ((x : X) → P x → f x ≤ g x) →
-    (xs : List X) → All P xs → sum f xs ≤ sum g xs
+    (xs : List X) → AllByRecursion P xs → sum f xs ≤ sum g xs
 sum_le P f g le [] all = le_refl _
 sum_le P f g le (x ∷ xs) all = omega (arith, le x all.0, sum_le P f g le xs all.1)
 

@@ -1,13 +1,13 @@
 -- Texts by the numbers of their blocks: these are below 2 ^ 56, and tell texts of one length apart. Assumes nothing.
 use Rattle.std.proofs.Common.{◌≡◌, ℕ, zero, suc, ◌+◌, ◌-◌, ◌*◌, ◌/◌, ◌%◌, ◌^◌, ◌<◌, min, ◌≢◌, ◌⊎◌, List, [], ◌∷◌, length, get_or, take, drop, sym, refl, ap, ◌∙◌, ap₂, inl, inr, pow-suc, arith, length-drop, length-take, get_or-drop, get_or-take}
 use native.Mathlib.Decide.{ℕ_discrete}
-use Rattle.std.specs.List.{AllByRecursion as All}
+use Rattle.std.specs.List.{AllByRecursion}
 use Rattle.std.proofs.ByRecursion.{All-take, All-drop}
 use Rattle.std.proofs.lemmas.List.{ext_get_or}
 use Rattle.hash.specs.Texts.{block_bytes, number, block, block_count}
 
 abbrev pub Bytes : List ℕ → Type 0
-Bytes xs = All (λ byte. byte < 256) xs
+Bytes xs = AllByRecursion (λ byte. byte < 256) xs
 
 number_below : (n : ℕ) (xs : List ℕ) → Bytes xs → number (take n xs) < 256 ^ n
 number_below zero xs bytes = omega arith

@@ -1,7 +1,7 @@
 -- The collision bound, over any field. Assumes nothing.
 use Rattle.std.proofs.Common.{◌≡◌, ℕ, ◌+◌, ◌-◌, ◌*◌, ◌^◌, ◌<◌, ◌≤◌, Bool, true, false, cond, eqb, ◌≢◌, List, refl, ap, ◌∙◌, subst, mul-le-mul_right, arith}
 use native.Mathlib.Nat.{pow-zero}
-use Rattle.std.specs.List.{range_with_len, AllByRecursion as All}
+use Rattle.std.specs.List.{range_with_len, AllByRecursion}
 use Rattle.std.proofs.lemmas.List.FromFn.{length-range_with_len}
 use Rattle.std.proofs.ByRecursion.{All-weaker}
 use Rattle.std.proofs.lemmas.Bool.{eqb-true}
@@ -25,7 +25,7 @@ module _ {m : Model} (F : FieldLaws m) (Z : OnlyZeroMakesZero m) where
       subst (λ K. FewMeetings m Good K a b (chunks a b)) (length-range_with_len lo n)
       (either_order F Z (range_with_len lo n) (counting_distinct lo n) elements Good listed a b ta tb a≢b)
     where
-      elements : All (Element m) (range_with_len lo n)
+      elements : AllByRecursion (Element m) (range_with_len lo n)
       elements = All-weaker _ (Element m) (λ k h. omega (arith, h.1)) (range_with_len lo n) (counting_within lo n)
 
       listed : (k : ℕ) → Good k → Member (range_with_len lo n) k

@@ -1,6 +1,6 @@
 -- How many subkeys are zero, in one ring and over all rings. Assumes nothing.
 use Rattle.std.proofs.Common.{◌≡◌, ℕ, zero, suc, ◌+◌, ◌*◌, ◌^◌, ◌≤◌, Bool, true, false, eqb, ◌≢◌, List, [], ◌∷◌, length, sym, refl, ap, ◌∙◌, ap₂, zero-le, mul-le-mul_right, pow-suc, arith}
-use Rattle.std.specs.List.{AllByRecursion as All}
+use Rattle.std.specs.List.{AllByRecursion}
 use Rattle.std.proofs.ByRecursion.{All-weaker}
 use Rattle.std.proofs.lemmas.Bool.{eqb-true, eq-eqb, ne_eqb}
 use Rattle.bound.specs.Counting.{Distinct}
@@ -10,14 +10,14 @@ use Rattle.bound.proofs.Rings.{rings, sum_step, sum_rings_const}
 abbrev pub zeros : List ℕ → ℕ
 zeros r = sum (λ k. one_if (eqb k 0)) r
 
-pub no_zero : (r : List ℕ) → zeros r ≡ 0 → All (λ k. k ≢ 0) r
+pub no_zero : (r : List ℕ) → zeros r ≡ 0 → AllByRecursion (λ k. k ≢ 0) r
 no_zero [] none = tt
 no_zero (k ∷ r) none = (nonzero, no_zero r (omega arith))
   where
     nonzero : k ≢ 0
     nonzero z = let one : one_if (eqb k 0) ≡ 1 = ap one_if (eq-eqb k 0 z) in omega arith
 
-zeros_none : (r : List ℕ) → All (λ k. k ≢ 0) r → zeros r ≡ 0
+zeros_none : (r : List ℕ) → AllByRecursion (λ k. k ≢ 0) r → zeros r ≡ 0
 zeros_none [] nonzero = refl
 zeros_none (k ∷ r) nonzero =
     let none : one_if (eqb k 0) ≡ 0 = ap one_if (ne_eqb k 0 nonzero.0) in

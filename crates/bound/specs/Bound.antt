@@ -1,6 +1,6 @@
 -- How seldom two different texts share a hash, over any field. Assumes nothing.
 use Rattle.std.specs.Prelude.{◌≡◌, ℕ, ◌+◌, ◌-◌, ◌*◌, ◌^◌, ◌<◌, ◌≤◌, max, cond, ◌≢◌, ◌⊎◌, List, [], ◌∷◌, length, ◌==◌}
-use Rattle.std.specs.List.{AllByRecursion as All}
+use Rattle.std.specs.List.{AllByRecursion}
 use Rattle.field.specs.Model.{Model}
 use Rattle.field.specs.Laws.{Element}
 use Rattle.hash.specs.Texts.{longest_text, chunk_count}
@@ -12,11 +12,11 @@ abbrev pub OnlyZeroMakesZero : Model → Type 0
 OnlyZeroMakesZero m = (a b : ℕ) → Element m a → Element m b → m.times a b ≡ 0 → (a ≡ 0) ⊎ (b ≡ 0)
 
 abbrev pub Text : List ℕ → Type 0
-Text text = (length text ≤ longest_text) × All (λ byte. byte < 256) text
+Text text = (length text ≤ longest_text) × AllByRecursion (λ byte. byte < 256) text
 
 -- a ring of c subkeys
 abbrev pub Ring : Model → ℕ → List ℕ → Type 0
-Ring m c ring = (length ring ≡ c) × All (Element m) ring
+Ring m c ring = (length ring ≡ c) × AllByRecursion (Element m) ring
 
 -- C, the chunks of the longer of two texts
 abbrev pub chunks : List ℕ → List ℕ → ℕ
@@ -40,7 +40,7 @@ pub record CollisionBound (m : Model) : Type 0 where
   pub fewer : OfDifferentTexts (λ a b. AtMost (2048 * m.size ^ (chunks a b - 1)) (Shares m a b))
   -- and of the rings without a zero subkey
   pub fewer_without_zero : OfDifferentTexts (λ a b.
-      AtMost (2048 * (m.size - 1) ^ (chunks a b - 1)) (λ ring. Shares m a b ring × All (λ k. k ≢ 0) ring))
+      AtMost (2048 * (m.size - 1) ^ (chunks a b - 1)) (λ ring. Shares m a b ring × AllByRecursion (λ k. k ≢ 0) ring))
   -- some texts do share a hash under some ring: the empty text and the byte 1, under the negative of one
   pub not_none : Shares m [] (1 ∷ []) (m.neg 1 ∷ [])
 

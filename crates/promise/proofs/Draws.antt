@@ -1,6 +1,6 @@
 -- Held draws: what is left without one. Assumes nothing.
 use Rattle.std.proofs.Common.{◌≡◌, ℕ, ◌+◌, true, eqb, ◌≢◌, List, [], ◌∷◌, length, sym, inl, inr, arith}
-use Rattle.std.specs.List.{AllByRecursion as All}
+use Rattle.std.specs.List.{AllByRecursion}
 use Rattle.std.proofs.lemmas.Bool.{cond_both, eqb-true, eqb-false, or_cases, false≢true}
 use Rattle.bound.specs.Counting.{Distinct}
 use Rattle.seal.specs.Sealing.{Among}
@@ -27,10 +27,10 @@ among_without d x (e ∷ es) here =
     split (λ l. Among x l → Among x (e ∷ es)) d e es (λ same i. inr i)
     (λ other i. elim i [ inl p ↦ inl p | inr j ↦ inr (among_without d x es j) ]) here
 
-pub all_without : (P : ℕ → Type 0) (d : ℕ) (ds : List ℕ) → All P ds → All P (without d ds)
+pub all_without : (P : ℕ → Type 0) (d : ℕ) (ds : List ℕ) → AllByRecursion P ds → AllByRecursion P (without d ds)
 all_without P d [] all = tt
 all_without P d (e ∷ es) all =
-    split (All P) d e es (λ same. all.1) (λ other. (all.0, all_without P d es all.1))
+    split (AllByRecursion P) d e es (λ same. all.1) (λ other. (all.0, all_without P d es all.1))
 
 pub distinct_without : (d : ℕ) (ds : List ℕ) → Distinct ds → Distinct (without d ds)
 distinct_without d [] once = tt

@@ -1,6 +1,6 @@
 -- What is true of one grave's past, whatever was done there last. Assumes nothing.
 use Rattle.std.proofs.Common.{◌≡◌, ℕ, ◌+◌, ◌<◌, ◌≤◌, List, [], ◌∷◌, length, Some, None, Option, sym, refl, ◌∙◌, inl, inr, arith}
-use Rattle.std.specs.List.{AllByRecursion as All}
+use Rattle.std.specs.List.{AllByRecursion}
 use Rattle.std.proofs.ByRecursion.{All-weaker}
 use Rattle.cipher.specs.declared.Key.{Key}
 use Rattle.refusal.specs.Outcomes.{Outcome}
@@ -20,7 +20,7 @@ module _ (S : Sealing) where
 
   pub record Sound (past : List Act) : Type 0 where
     pub adds_up : DrawsAddUp past
-    pub right : All (Right (key past) (handed_out past) (held past)) (sheets past)
+    pub right : AllByRecursion (Right (key past) (handed_out past) (held past)) (sheets past)
     pub fair : ChecksFair S past
 
   pub sound_none : Sound []
@@ -39,7 +39,7 @@ module _ (S : Sealing) where
   module _ {past : List Act} (P : Sound past) where
     -- a sheet stays right while its draw stays handed out and not held
     still_right : (n : ℕ) (ds : List ℕ) → handed_out past ≤ n →
-        ((d : ℕ) → d < handed_out past → Among d ds → Among d (held past)) → All (Right (key past) n ds) (sheets past)
+        ((d : ℕ) → d < handed_out past → Among d ds → Among d (held past)) → AllByRecursion (Right (key past) n ds) (sheets past)
     still_right n ds more back =
         All-weaker _ _ (λ s r.
         let t = r.true_sheet in record {

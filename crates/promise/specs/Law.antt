@@ -1,6 +1,6 @@
 -- The law of what happened at a book, whatever calls were made. Assumes nothing.
 use Rattle.std.specs.Prelude.{◌≡◌, ℕ, ◌+◌, ◌<◌, ◌≤◌, ◌≢◌, List, [], ◌∷◌, length, Some, Option}
-use Rattle.std.specs.List.{AllByRecursion as All}
+use Rattle.std.specs.List.{AllByRecursion}
 use Rattle.cipher.specs.declared.Block.{Block}
 use Rattle.cipher.specs.declared.Key.{Key}
 use Rattle.refusal.specs.Outcomes.{Outcome, gives, refuses}
@@ -14,7 +14,7 @@ use Rattle.promise.specs.Past.{key, IsOpen, handed_out, sheets, newest, held, vo
 pub record AddUp (handed sealed voided : ℕ) (held : List ℕ) : Type 0 where
   pub sum : handed ≡ (sealed + voided) + length held
   pub held_once : Distinct held
-  pub held_handed : All (λ d. d < handed) held
+  pub held_handed : AllByRecursion (λ d. d < handed) held
   pub held_few : length held ≤ 4
   pub handed_few : handed ≤ 1000000
 
@@ -80,7 +80,7 @@ module _ (S : Sealing) where
   -- the law of what happened
   pub record Law (h : History) : Type 0 where
     pub draws_add_up : (g : ℕ) → DrawsAddUp (acts g h)
-    pub sheets_true : (g : ℕ) → All (TrueSheet (key (acts g h)) (handed_out (acts g h))) (sheets (acts g h))
+    pub sheets_true : (g : ℕ) → AllByRecursion (TrueSheet (key (acts g h)) (handed_out (acts g h))) (sheets (acts g h))
     pub one_sheet_a_draw : Distinct (sealed_under h)
     pub one_grave_a_key : (g i : ℕ) (k : Key) → key (acts g h) ≡ Some k → key (acts i h) ≡ Some k → g ≡ i
     pub checks_fair : (g : ℕ) → ChecksFair (acts g h)

@@ -1,6 +1,6 @@
 -- Worked examples of the hash. Assumes nothing.
 use Rattle.std.specs.Prelude.{◌≡◌, ℕ, ◌-◌, ◌^◌, Bool, false, List, [], ◌∷◌, ◌==◌}
-use Rattle.std.specs.List.{AllByRecursion as All}
+use Rattle.std.specs.List.{AllByRecursion}
 use Rattle.refusal.specs.Outcomes.{Outcome, gives, refuses}
 use Rattle.field.specs.Model.{Model}
 use Rattle.m61.specs.Mersenne.{m61}
@@ -40,7 +40,7 @@ abbrev pub Holds : Row → Type 0
 Holds r = hash_outcome r.field r.ring r.text ≡ gives r.hash
 
 abbrev pub RowsHold : Type 0
-RowsHold = All Holds rows
+RowsHold = AllByRecursion Holds rows
 
 -- whether an outcome is this value
 abbrev pub is_value : ℕ → Outcome ℕ → Bool

@@ -1,6 +1,6 @@
 -- Published test vectors, as statements of the definitions. Assumes nothing.
 use Rattle.std.specs.Prelude.{◌≡◌, ℕ, zero, suc, ◌-◌, ◌^◌, List, [], ◌∷◌}
-use Rattle.std.specs.List.{AllByRecursion as All}
+use Rattle.std.specs.List.{AllByRecursion}
 use Rattle.noekeon.specs.Noekeon.{noekeon}
 use Rattle.vectors.specs.Asked.{asked_of}
 use Rattle.vectors.specs.Mac.{mac_of}
@@ -48,5 +48,5 @@ abbrev pub mac_key : ℕ
 mac_key = 0xffeeddccbbaa99887766554433221100
 
 pub record Published : Type 0 where
-  pub ciphers : All (λ r. asked_of noekeon r.key r.block ≡ r.answer) noekeon_rows
-  pub macs : All (λ t. (mac_of mac_key (counted t.length 0)).first ≡ t.first) mac_rows
+  pub ciphers : AllByRecursion (λ r. asked_of noekeon r.key r.block ≡ r.answer) noekeon_rows
+  pub macs : AllByRecursion (λ t. (mac_of mac_key (counted t.length 0)).first ≡ t.first) mac_rows

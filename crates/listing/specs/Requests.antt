@@ -1,5 +1,5 @@
 -- A record of kind 2 asks for a hash: a field byte, a count of subkeys, the subkeys, and the text. Assumes nothing.
-use Rattle.std.specs.Prelude.{ℕ, zero, suc, ◌+◌, ◌*◌, not, ◌||◌, ltb, List, [], ◌∷◌, length, take, drop, is_some, ◌==◌, nat_lt, slice_index}
+use Rattle.std.specs.Prelude.{ℕ, zero, suc, ◌+◌, ◌*◌, not, ◌||◌, List, [], ◌∷◌, length, take, drop, is_some, ◌==◌, nat_lt, slice_index}
 use Rattle.refusal.specs.Outcomes.{Cause, ◌when◌, Outcome, decided}
 use Rattle.byte_rows.specs.Numbers.{number}
 use Rattle.fields.specs.Fields.{field_called, hash_over_field}
@@ -31,9 +31,9 @@ text body = drop (2 + 8 * count body) body
 abbrev pub request_causes : ℕ → List ℕ → List Cause
 request_causes kind body =
     15 when not (kind == hash_kind)
-    ∷ 14 when ltb (length body) 2
+    ∷ 14 when nat_lt (length body) 2
     ∷ 15 when (not (is_some (field_called (field_byte body))) || nat_lt most_subkeys (count body))
-    ∷ 14 when ltb (length body) (2 + 8 * count body)
+    ∷ 14 when nat_lt (length body) (2 + 8 * count body)
     ∷ []
 
 abbrev pub request_outcome : ℕ → List ℕ → Outcome ℕ

@@ -23,10 +23,10 @@ loop-i-preserved c =
     passed_more _ _ hand c.loop-i.i none within c.loop-i.invariant
     (elim c.else-from-grave.branch [
       | else-from-grave-via-then-from-grave+else-number w ↦
-          other_number _ _ here (sym its_grave ∙ w.if-from-grave.true)
-          (λ same. w.if-number.false (w.number.ensures ∙ same))
+          other_number _ _ here (omega (arith, its_grave))
+          (λ same. omega (arith, w.number.ensures, same))
       | else-from-grave-via-else-from-grave w ↦
-          other_grave _ _ here (λ same. w.if-from-grave.false (its_grave ∙ same))
+          other_grave _ _ here (λ same. omega (arith, its_grave, same))
     ])
 
 pub returns-then-number : goal.returns-then-number

@@ -7,11 +7,9 @@ ghost use Rattle.sheet.specs.Sheets.{sheet_in, limit_causes, body_causes, read_o
 ghost use Rattle.sheet.specs.Names.{sealed, sheet_seen, all_seen};
 ghost use Rattle.sheet.specs.Writing.{write_outcome, buffer_after, put_at, ReadsBack, WritesBack};
 
-use byte_rows::{LONGEST_TEXT, take_u16, take_u64};
-use record::{Record, read_record};
+use byte_rows::{LONGEST_TEXT, take};
+use record::{Kind, Record, read_record};
 use refusal::Refusal;
-
-const SHEET_KIND: u16 = 1;
 
 const HIGHEST_GRAVE: u16 = 255;
 
@@ -50,13 +48,13 @@ fn check_limits(grave: u16, text: &[u8]) -> Result<(), Refusal>
 fn read_body(body: &[u8]) -> Result<Sheet<'_>, Refusal>
     ensures { mapped sheet_seen (told result) ≡ decided (body_causes body.now) (gives (sheet_in body.now)) }
 {
-    let Some((grave, after_grave)) = take_u16(body) else {
+    let Some((grave, after_grave)) = take::<u16, 2>(body) else {
         return Err(Refusal::RecordCutShort);
     };
-    let Some((draw, after_draw)) = take_u64(after_grave) else {
+    let Some((draw, after_draw)) = take::<u64, 8>(after_grave) else {
         return Err(Refusal::RecordCutShort);
     };
-    let Some((seal, text)) = take_u64(after_draw) else {
+    let Some((seal, text)) = take::<u64, 8>(after_draw) else {
         return Err(Refusal::RecordCutShort);
     };
     check_limits(grave, text)?;
@@ -76,9 +74,9 @@ pub fn read_sheet(input: &[u8]) -> Result<Read<'_>, Refusal>
     let Some(Record { kind, body, rest }) = read_record(input) else {
         return Err(Refusal::RecordCutShort);
     };
-    if kind != SHEET_KIND {
+    let Ok(Kind::SealedSheet) = Kind::try_from(kind) else {
         return Err(Refusal::Undefined);
-    }
+    };
     let sheet = read_body(body)?;
     Ok(Read { sheet, rest })
 }
@@ -109,7 +107,7 @@ pub fn write_sheet(
         return Err(Refusal::BufferTooShort);
     }
     put(buffer, 0, &((size - 4) as u32).to_le_bytes());
-    put(buffer, 4, &SHEET_KIND.to_le_bytes());
+    put(buffer, 4, &Kind::SealedSheet.number().to_le_bytes());
     put(buffer, 6, &grave.to_le_bytes());
     put(buffer, 8, &draw.to_le_bytes());
     put(buffer, 16, &seal.to_le_bytes());

@@ -19,7 +19,7 @@ returns c =
     let length_in = laid_on 4 (bytes_of 4 size) (begun c.args.buffer.now) c.put.ensures
     (c.to_le_bytes.ensures ∙ divided 3 _ ∙ ap (bytes_of 4) (omega arith)) refl in
     let kind_in = laid_on 6 (bytes_of 2 sheet_kind) length_in c.put-2.ensures
-    (c.to_le_bytes-2.ensures ∙ divided 1 sheet_kind) refl in
+    (c.to_le_bytes-2.ensures ∙ divided 1 c.number.result ∙ ap (bytes_of 2) c.number.ensures) refl in
     let grave_in = laid_on 8 (bytes_of 2 g) kind_in c.put-3.ensures
     (c.to_le_bytes-3.ensures ∙ divided 1 g) refl in
     let draw_in = laid_on 16 (bytes_of 8 d) grave_in c.put-4.ensures

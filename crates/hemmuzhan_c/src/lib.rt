@@ -15,6 +15,7 @@ ghost use Rattle.hemmuzhan.specs.Sheets.{grave_read, draw_read, seal_read, text_
 use hemmuzhan::{Suite, find_sheet, write_sheet};
 use refusal::Refusal;
 use seal::{Key, Wipe};
+use sheet::Draft;
 
 // 0, or the refusal's number.
 fn status<T: Drop>(answer: Result<T, Refusal>) -> u8
@@ -171,5 +172,11 @@ pub extern "C" fn hemmuzhan_write_sheet(
     ensures buffer { buffer.new ≡ buffer_after (sealed grave draw seal text.now) buffer.old }
     ensures size { RecordLength (sealed grave draw seal text.now) }
 {
-    status(write_sheet(grave, draw, seal, text, buffer))
+    let draft = Draft {
+        grave,
+        draw,
+        seal,
+        text,
+    };
+    status(write_sheet(draft, buffer))
 }

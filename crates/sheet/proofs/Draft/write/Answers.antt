@@ -7,14 +7,14 @@ use Rattle.byte_rows.proofs.Back.{divided}
 use Rattle.sheet.specs.Sheets.{sheet_kind, highest_grave, sheet_body, limit_causes}
 use Rattle.sheet.specs.Names.{sealed}
 use Rattle.sheet.proofs.Laying.{begun, laid_on, promised}
-use Rattle.sheet.proofs.write_sheet.Goals as goal
+use Rattle.sheet.proofs.Draft.write.Goals as goal
 
 pub returns : goal.returns
 returns c =
-    let g = c.args.grave in
-    let d = c.args.draw in
-    let s = c.args.seal in
-    let text = c.args.text.now in
+    let g = c.args.self.grave in
+    let d = c.args.self.draw in
+    let s = c.args.self.seal in
+    let text = c.args.self.text.now in
     let size : ℕ = 2 + length (sheet_body (sealed g d s text)) in
     let length_in = laid_on 4 (bytes_of 4 size) (begun c.args.buffer.now) c.put.ensures
     (c.to_le_bytes.ensures ∙ divided 3 _ ∙ ap (bytes_of 4) (omega arith)) refl in

@@ -4,7 +4,6 @@ use native.Mathlib.Nat.{mul-mul-mul_comm, mul-add-mod_self_right}
 use lib.Bits.{bit_and}
 use Rattle.std.proofs.lemmas.Nat.{and_mask}
 use Rattle.m61.specs.Mersenne.{prime, means61}
-use Rattle.field.proofs.Modular.{mod_plus_mod}
 
 -- numbers that a multiple of the prime lies between mean the same
 pub apart : (q x y : ℕ) → q * prime + x ≡ y → means61 x ≡ means61 y
@@ -42,28 +41,3 @@ parts_product a b c d k =
     let e6 = mul_assoc b c k in
     let e7 = add-mul (a * d) (b * c) k in
     omega arith
-
--- in a sum, a number may stand for another that means the same
-pub plus_same : (a b c : ℕ) → means61 b ≡ means61 c → means61 (a + b) ≡ means61 (a + c)
-plus_same a b c same =
-    sym (mod_plus_mod prime a b)
-    ∙ ap (λ (u : ℕ). (a % prime + u) % prime) same
-    ∙ mod_plus_mod prime a c
-
--- 8 for 2 ^ 64, and 1 for 2 ^ 61
-pub wide_same : (h m l s : ℕ) → means61 s ≡ means61 l
-    → means61 (h * 8 + m / 2 ^ 29 + m % 2 ^ 29 * 2 ^ 32 + s) ≡ means61 (h * 2 ^ 64 + m * 2 ^ 32 + l)
-wide_same h m l s same =
-    let top : ℕ = h * 8 + m / 2 ^ 29 + m % 2 ^ 29 * 2 ^ 32 in
-    plus_same top s l same
-    ∙ apart (h * 8 + m / 2 ^ 29) (top + l) (h * 2 ^ 64 + m * 2 ^ 32 + l) (omega arith)
-
--- the same where t stands for 8 h
-pub sum_same : (h m l t : ℕ) → means61 t ≡ means61 (h * 8)
-    → means61 (t + m / 2 ^ 29 + m % 2 ^ 29 * 2 ^ 32 + l) ≡ means61 (h * 2 ^ 64 + m * 2 ^ 32 + l)
-sum_same h m l t same =
-    let rest : ℕ = m / 2 ^ 29 + m % 2 ^ 29 * 2 ^ 32 + l in
-    ap means61 (omega arith)
-    ∙ plus_same rest t (h * 8) same
-    ∙ ap means61 (omega arith)
-    ∙ wide_same h m l l refl

@@ -4,6 +4,7 @@ use native.Mathlib.Nat.{mul-mul-mul_comm, mul-add-mod_self_right}
 use lib.Bits.{bit_and}
 use Rattle.std.proofs.lemmas.Nat.{and_mask}
 use Rattle.m61.specs.Mersenne.{prime, means61}
+use Rattle.field.proofs.Modular.{mod_plus_mod}
 
 -- numbers that a multiple of the prime lies between mean the same
 pub apart : (q x y : ℕ) → q * prime + x ≡ y → means61 x ≡ means61 y
@@ -41,3 +42,10 @@ parts_product a b c d k =
     let e6 = mul_assoc b c k in
     let e7 = add-mul (a * d) (b * c) k in
     omega arith
+
+-- in a sum, a number may stand for another that means the same
+pub plus_same : (a b c : ℕ) → means61 b ≡ means61 c → means61 (a + b) ≡ means61 (a + c)
+plus_same a b c same =
+    sym (mod_plus_mod prime a b)
+    ∙ ap (λ (u : ℕ). (a % prime + u) % prime) same
+    ∙ mod_plus_mod prime a c

@@ -50,8 +50,8 @@ fn split(x: u64) -> Limbs
     }
 }
 
-// A number too wide for a word, high * 2^64 + middle * 2^32 + low, whose two upper parts are as large as N products of
-// folded numbers can make them, added part by part. Of four products, the folded sum of the parts fits one word.
+// A number too wide for a word, high * 2^64 + middle * 2^32 + low, as large as N wide products can be, added part by
+// part. Of up to four, the folded sum of the parts fits one word.
 #[derive(Drop)]
 struct Wide<const N: u64> {
     high: u64,
@@ -64,10 +64,12 @@ impl<const N: u64> Model for Wide<N> {
 
     ghost view = { λ w. w.high * 2 ^ 64 + w.middle * 2 ^ 32 + w.low };
 
-    ghost invariant = { λ w. (N ≤ 4) × ((w.high ≤ N * 2 ^ 58) × (w.middle ≤ N * (2 ^ 62 - 1))) };
+    ghost invariant = { λ w.
+        (N ≤ 4) × (w.high ≤ N * 2 ^ 58) × (w.middle ≤ N * (2 ^ 62 - 1)) × (w.low ≤ N * (2 ^ 61 + 6)) };
 }
 
-// A wide number that means the product of what the two mean.
+// A wide number that means the product of what the two mean. Its low part is folded, so that four such fit when they
+// are added part by part.
 fn wide_product(x: u64, y: u64) -> Wide<1>
     ensures { means61 result ≡ m61.times (means61 x) (means61 y) }
 {
@@ -76,18 +78,17 @@ fn wide_product(x: u64, y: u64) -> Wide<1>
     Wide {
         high: multiply(a, c),
         middle: multiply(a, d) + multiply(b, c),
-        low: multiply(b, d),
+        low: fold(multiply(b, d)).value,
     }
 }
 
-// A wide number that means the sum of four products, added part by part. The low parts are folded, so that four fit.
 fn add_four(a: Wide<1>, b: Wide<1>, c: Wide<1>, d: Wide<1>) -> Wide<4>
-    ensures { means61 result ≡ means61 ((a + b) + (c + d)) }
+    ensures { result ≡ (a + b) + (c + d) }
 {
     Wide {
         high: a.high + b.high + c.high + d.high,
         middle: a.middle + b.middle + c.middle + d.middle,
-        low: fold(a.low).value + fold(b.low).value + fold(c.low).value + fold(d.low).value,
+        low: a.low + b.low + c.low + d.low,
     }
 }
 
@@ -96,9 +97,10 @@ fn fold_wide<const N: u64>(wide: Wide<N>) -> Folded
     ensures { means61 result.value ≡ means61 wide.entry }
 {
     let Wide { high, middle, low } = wide;
+    let top = fold(high << 3).value;
     let middle_high = middle >> 29;
     let middle_low = (middle & 0x1fff_ffff) << 32;
-    fold((high << 3) + middle_high + middle_low + fold(low).value)
+    fold(top + middle_high + middle_low + low)
 }
 
 pub struct M61;

@@ -1,8 +1,8 @@
-use Rattle.std.proofs.Common.{ℕ, ◌-◌, ◌*◌, ◌^◌, ◌≤◌, sym, ap, ◌∙◌, ap₂, arith}
+use Rattle.std.proofs.Common.{ℕ, ◌+◌, ◌-◌, ◌*◌, ◌^◌, ◌≤◌, sym, ap, ◌∙◌, ap₂, arith}
 use Rattle.std.proofs.lemmas.Nat.{mul-le}
 use Rattle.field.proofs.Modular.{mod_mul_mod}
 use Rattle.m61.specs.Mersenne.{prime, m61, means61}
-use Rattle.m61.proofs.Folding.{parts_product}
+use Rattle.m61.proofs.Folding.{parts_product, plus_same}
 use Rattle.m61.proofs.wide_product.Goals as goal
 
 -- a high limb is at most 2 ^ 29, and a low one below 2 ^ 32
@@ -20,11 +20,17 @@ invariant_of-result c =
     let ac = mul-le c.split-a.result.high c.split-c.result.high (2 ^ 29) (2 ^ 29) (omega arith) (omega arith) in
     let ad = cross c.split-a.result.high c.split-c.result.low (omega arith) (omega arith) in
     let cb = cross c.split-c.result.high c.split-a.result.low (omega arith) (omega arith) in
-    (omega arith, (omega arith, omega arith))
+    (omega arith, omega arith, omega arith, omega arith)
 
 pub returns : goal.returns
 returns c =
-    let parts = parts_product c.split-a.result.high c.split-a.result.low c.split-c.result.high c.split-c.result.low (2 ^ 32) in
-    ap means61 (omega arith ∙ sym parts ∙ ap₂ (λ (x y : ℕ). x * y) c.split-a.ensures c.split-c.ensures)
+    let a : ℕ = c.split-a.result.high in
+    let b : ℕ = c.split-a.result.low in
+    let u : ℕ = c.split-c.result.high in
+    let v : ℕ = c.split-c.result.low in
+    let top : ℕ = a * u * 2 ^ 64 + (a * v + b * u) * 2 ^ 32 in
+    ap means61 (omega arith)
+    ∙ plus_same top c.fold-3.result.value (b * v) (c.fold-3.ensures ∙ ap means61 c.multiply-4.ensures)
+    ∙ ap means61 (sym (parts_product a b u v (2 ^ 32)) ∙ ap₂ (λ (x y : ℕ). x * y) c.split-a.ensures c.split-c.ensures)
     ∙ sym (mod_mul_mod prime c.fold.result.value c.fold-2.result.value)
     ∙ ap₂ m61.times c.fold.ensures c.fold-2.ensures

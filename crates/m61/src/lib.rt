@@ -50,8 +50,8 @@ fn split(x: u64) -> Limbs
     }
 }
 
-// A number too wide for a word, high * 2^64 + middle * 2^32 + low, as large as N wide products can be, added part by
-// part. Of up to four, the folded sum of the parts fits one word.
+// A number too wide for a word, high * 2^64 + middle * 2^32 + low, as large as up to four products can make it, added
+// part by part: N of them.
 #[derive(Drop)]
 struct Wide<const N: u64> {
     high: u64,
@@ -97,7 +97,12 @@ fn fold_wide<const N: u64>(wide: Wide<N>) -> Folded
     ensures { means61 result.value ≡ means61 wide.entry }
 {
     let Wide { high, middle, low } = wide;
-    let top = fold(high << 3).value;
+    // Of four products the high part is folded by itself, or the sum would not fit.
+    let top = if N < 4 {
+        high << 3
+    } else {
+        fold(high << 3).value
+    };
     let middle_high = middle >> 29;
     let middle_low = (middle & 0x1fff_ffff) << 32;
     fold(top + middle_high + middle_low + low)

@@ -2,18 +2,12 @@ use Rattle.std.proofs.Common.{ℕ, ◌+◌, ◌-◌, ◌*◌, ◌^◌, ◌≤◌
 use Rattle.std.proofs.lemmas.Nat.{mul-le}
 use Rattle.field.proofs.Modular.{mod_mul_mod}
 use Rattle.m61.specs.Mersenne.{prime, m61, means61}
-use Rattle.m61.proofs.Folding.{parts_product, plus_same}
+use Rattle.m61.proofs.Parts.{parts_product, plus_same}
 use Rattle.m61.proofs.wide_product.Goals as goal
 
 -- a high limb is at most 2 ^ 29, and a low one below 2 ^ 32
 cross : (high low : ℕ) → high ≤ 2 ^ 29 → low ≤ 2 ^ 32 - 1 → high * low ≤ 2 ^ 61 - 2 ^ 29
 cross high low h l = mul-le high low (2 ^ 29) (2 ^ 32 - 1) h l
-
-pub overflow_add-result : goal.overflow_add-result
-overflow_add-result c =
-    let ad = cross c.split-a.result.high c.split-c.result.low (omega arith) (omega arith) in
-    let cb = cross c.split-c.result.high c.split-a.result.low (omega arith) (omega arith) in
-    omega arith
 
 pub invariant_of-result : goal.invariant_of-result
 invariant_of-result c =

@@ -23,29 +23,11 @@ impl From<[u8; 16]> for Words {
     ghost from_gives = { λ bytes words. words ≡ words_of bytes };
 
     fn from(bytes: [u8; 16]) -> Words {
-        let [
-            b0,
-            b1,
-            b2,
-            b3,
-            b4,
-            b5,
-            b6,
-            b7,
-            b8,
-            b9,
-            b10,
-            b11,
-            b12,
-            b13,
-            b14,
-            b15,
-        ] = bytes;
         Words {
-            v0: u32::from_le_bytes([b0, b1, b2, b3]),
-            v1: u32::from_le_bytes([b4, b5, b6, b7]),
-            v2: u32::from_le_bytes([b8, b9, b10, b11]),
-            v3: u32::from_le_bytes([b12, b13, b14, b15]),
+            v0: u32::from_le_bytes([bytes[0], bytes[1], bytes[2], bytes[3]]),
+            v1: u32::from_le_bytes([bytes[4], bytes[5], bytes[6], bytes[7]]),
+            v2: u32::from_le_bytes([bytes[8], bytes[9], bytes[10], bytes[11]]),
+            v3: u32::from_le_bytes([bytes[12], bytes[13], bytes[14], bytes[15]]),
         }
     }
 }

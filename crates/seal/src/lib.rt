@@ -21,8 +21,7 @@ pub use wipe::Wipe;
 // What marks a seal's own block: the blocks of subkeys begin with 0.
 const OWN: u64 = 1 << 63;
 
-// Cipher and key stay two parameters, here and below: a caller lends the cipher and gives the key with each call, and a
-// pair made for the two inner functions would be taken apart again in each.
+// Cipher and key stay two parameters: the public calls give them apart, and a pair would be undone in each function.
 
 // Writes subkey c to place c, for each c below n.
 fn write_subkeys<F: Field, C: Cipher>(cipher: &mut C, key: Key, n: usize, ring: &mut [u64])

@@ -21,19 +21,21 @@ pub use wipe::Wipe;
 // What marks a seal's own block: the blocks of subkeys begin with 0.
 const OWN: u64 = 1 << 63;
 
+// Cipher and key stay two parameters: the public calls give them apart, and a pair would be undone in each function.
+
 // Writes subkey c to place c, for each c below n.
 fn write_subkeys<F: Field, C: Cipher>(cipher: &mut C, key: Key, n: usize, ring: &mut [u64])
     requires { n ≤ length ring.old }
     ensures ring { Subkeys F.Field.model (C.Cipher.function cipher.old) key n ring.new }
     ensures kept { C.Cipher.function cipher.new ≡ C.Cipher.function cipher.old }
 {
-    for c in 0..n {
+    for (c, place) in ring[..n].iter_mut().enumerate() {
         let block = Block {
             first: 0,
             second: c as u64,
         };
         let answer = cipher.encipher(key, block);
-        ring[c] = F::reduce(answer.first);
+        *place = F::reduce(answer.first);
     }
 }
 

@@ -1,10 +1,7 @@
-use Rattle.std.proofs.Common.{length, arith, rules}
+use Rattle.std.proofs.Common.{length, rules}
 use Rattle.seal.proofs.Apart.{sealing_laws}
 use Rattle.seal.proofs.Sealed.{sealed}
 use Rattle.seal.proofs.seal_text.Goals as goal
-
-pub overflow_add-block : goal.overflow_add-block
-overflow_add-block g c = omega (arith, c.in_ok-hash.ensures.below)
 
 pub returns : goal.returns
 returns g c =

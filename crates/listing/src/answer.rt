@@ -44,6 +44,7 @@ pub fn answer(kind: u16, body: &[u8]) -> Result<u64, Refusal>
     if count > MOST_SUBKEYS {
         return Err(Refusal::Undefined);
     }
+    // The ring lies on the stack, as many of eight places as the record says, so that no answer needs the heap.
     let mut places = [0; MOST_SUBKEYS];
     let ring = &mut places[0..count];
     let Some(text) = take_subkeys(ring, after_count) else {

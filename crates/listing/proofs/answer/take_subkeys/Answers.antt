@@ -15,7 +15,7 @@ loop-place-preserved c =
 pub returns-in_err-subkey : goal.returns-in_err-subkey
 returns-in_err-subkey c =
     let missing = stopped (length c.args.ring.now) c.loop-place.invariant (omega arith)
-        (front_none 8 c.loop-place.rest.now c.in_err-subkey.ensures) in
+    (front_none 8 c.loop-place.rest.now c.in_err-subkey.ensures) in
     rw c.from_residual.ensures record { rest = missing; ring = λ never. absurd (false≢true never) }
 
 pub returns : goal.returns

@@ -1,6 +1,6 @@
 -- A product in parts, and a sum in which one number stands for another that means the same. Assumes nothing.
 use Rattle.std.proofs.Common.{◌≡◌, ℕ, ◌+◌, ◌*◌, ◌%◌, sym, ap, ◌∙◌, mul_assoc, add-mul, mul-add, mul_right_comm, arith}
-use native.Mathlib.Nat.{mul-mul-mul_comm}
+use Rattle.std.proofs.Math.Nat.{mul-mul-mul_comm}
 use Rattle.m61.specs.Mersenne.{prime, means61}
 use Rattle.field.proofs.Modular.{mod_plus_mod}
 

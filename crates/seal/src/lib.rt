@@ -59,6 +59,7 @@ fn hash_by_key<F: Field, C: Cipher>(
 }
 
 // The seal of the text. The ring list ends as zeros, whichever way the call ends.
+#[tactic(auto, using(crate::proofs::Apart::sealing_laws, crate::proofs::Sealed::sealed))]
 pub fn seal_text<F: Field, C: Cipher>(
     cipher: &mut C,
     key: Key,

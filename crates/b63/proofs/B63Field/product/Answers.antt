@@ -1,8 +1,5 @@
-use mathlib.Core.Path.{◌≡◌, ap₂, ◌∙◌}
-use Prim.Native.Nat.{ℕ}
-use native.Mathlib.Nat.{mod-lt, mod-eq_of_lt}
-use lib.Dec.{lit<}
-use lib.Bits.{and_mask}
+use Rattle.std.proofs.Common.{◌≡◌, ap₂, ◌∙◌, ℕ, mod-lt, mod-eq_of_lt, lit<}
+use Rattle.std.proofs.lemmas.Nat.{and_mask}
 use Rattle.b63.specs.Binary.{means63, times63, Remainder}
 use Rattle.b63.proofs.Remainder.{remainder63}
 use Rattle.b63.proofs.B63Field.product.Goals as goal

@@ -1,6 +1,5 @@
 // What a grave's record says, and how its state goes on.
-ghost use Rattle.std.specs.Prelude.{◌≡◌, ◌<◌};
-ghost use Rattle.refusal.specs.Outcomes.{told};
+ghost use Rattle.std.specs.Prelude.{◌≡◌};
 ghost use Rattle.graves.specs.States.{next_outcome, stated};
 
 use crate::held::Held;

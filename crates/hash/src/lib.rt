@@ -34,6 +34,7 @@ fn block_number(block: &[u8]) -> u64
     ensures small { result < 2 ^ 56 }
 {
     let mut number = 0;
+    // By the index, which says how far to shift: the hash's loops go over elements with their index.
     for (i, byte) in block.iter().enumerate() {
         number += u64::from(*byte) << (8 * i);
     }
@@ -108,6 +109,7 @@ fn polynomial<F: Field>(ring: &[u64], text: &[u8]) -> u64
     ensures element { F.Field.model.means result ≡ after F.Field.model (map F.Field.model.means ring.now) text.now (block_count text.now) }
 {
     let mut x = 0;
+    // By the index, which is the place of the chunk's subkey: the hash's loops go over elements with their index.
     for (c, chunk) in text.chunks(CHUNK_BYTES).enumerate() {
         x = through_chunk::<F>(x, ring[c], chunk);
     }

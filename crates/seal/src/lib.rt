@@ -25,7 +25,6 @@ const OWN: u64 = 1 << 63;
 // and each that asks a cipher that its function is kept.
 
 // Cipher, key, draw, text and ring stay parameters: each call is given its own, and none is kept for the next.
-// `kept` stays in each contract: a type round the lent cipher that says it would have to be made for each call.
 
 // Writes subkey c to place c, for each c below n.
 fn write_subkeys<F: Field, C: Cipher>(cipher: &mut C, key: Key, n: usize, ring: &mut [u64])

@@ -49,7 +49,7 @@ impl Record {
     }
 
     // The state goes on, and nothing else changes.
-    fn gone_on(self, event: Event) -> Result<Record, Refusal>
+    pub fn gone_on(self, event: Event) -> Result<Record, Refusal>
         ensures { turned result ≡ decided (state_causes (state self.entry.state) event) (gives (with_state (state_after (state self.entry.state) event) (the_record self))) }
     {
         let state = self.entry.state.after(event)?;

@@ -154,6 +154,7 @@ impl Field for M61 {
 
     // A folded number is the prime or above exactly if one more reaches 2^61; then the carry is 1, and adding it and
     // dropping bit 61 takes the prime away. No branch tells which.
+    #[tactic(auto, using(crate::proofs::Carried::carried))]
     fn reduce(x: u64) -> u64
         ensures { result ≡ means61 x }
     {

@@ -35,7 +35,6 @@ fn block_number(block: &[u8]) -> u64
 {
     // By the project's rule these loops go over a slice's elements with their index; here it is the byte's place.
     let mut number = 0;
-    // By the index, which says how far to shift: the hash's loops go over elements with their index.
     for (i, byte) in block.iter().enumerate() {
         number += u64::from(*byte) << (8 * i);
     }
@@ -111,7 +110,6 @@ fn polynomial<F: Field>(ring: &[u64], text: &[u8]) -> u64
 {
     // The same rule: the index of a chunk is that of its subkey.
     let mut x = 0;
-    // By the index, which is the place of the chunk's subkey: the hash's loops go over elements with their index.
     for (c, chunk) in text.chunks(CHUNK_BYTES).enumerate() {
         x = through_chunk::<F>(x, ring[c], chunk);
     }

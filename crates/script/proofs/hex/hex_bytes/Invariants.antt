@@ -1,7 +1,7 @@
 use Rattle.std.proofs.Common.{◌≡◌, length, vec_items}
 use Rattle.script.specs.Digits.{pairs}
 use Rattle.script.proofs.Paired.{and_then}
-use Rattle.script.proofs.text.hex_bytes.Given as goal
+use Rattle.script.proofs.hex.hex_bytes.Given as goal
 
 -- the bytes so far, and those of the digits that are left
 abbrev pub invariant-loop-rest : goal.invariant-loop-rest

@@ -1,6 +1,7 @@
--- The model that each name of the code stands for. Assumes nothing.
-use Rattle.std.specs.Option.{option_map}
-use Rattle.std.specs.Prelude.{Option}
+-- The model that each name of the code stands for, and the numbers and words that stand for the name. Assumes nothing.
+use Rattle.std.specs.Prelude.{ℕ, cond, List, Some, None, codes, Option, ◌==◌}
+use Rattle.std.specs.Str.{bytes_eq}
+use Rattle.refusal.specs.Outcomes.{Outcome, gives, refuses}
 use Rattle.field.specs.Model.{Model}
 use Rattle.m61.specs.Mersenne.{m61}
 use Rattle.b63.specs.Binary.{b63}
@@ -11,5 +12,9 @@ abbrev pub model_of : FieldName → Model
 model_of M61 = m61
 model_of B63 = b63
 
-abbrev pub named : Option FieldName → Option Model
-named f = option_map model_of f
+-- the name that a number stands for, or the refusal of one that stands for none
+abbrev pub field_named : ℕ → Outcome FieldName
+field_named number = cond (number == 0) (gives M61) (cond (number == 1) (gives B63) (refuses 15))
+
+abbrev pub field_spelled : List ℕ → Option FieldName
+field_spelled word = cond (bytes_eq word (codes "m61")) (Some M61) (cond (bytes_eq word (codes "b63")) (Some B63) None)

@@ -1,17 +1,12 @@
 -- What each call answers, as a number, and what it leaves in the lists that were lent. Assumes nothing.
 use Rattle.std.specs.Prelude.{Bool, true, false, List, [], ◌∷◌, ℕ, ◌==◌, set}
-use Rattle.refusal.specs.Outcomes.{Outcome, gives, refuses, ◌when◌, decided}
+use Rattle.refusal.specs.Outcomes.{Outcome, gives, refuses, then, ◌when◌, decided}
 use Rattle.cipher.specs.declared.Key.{Key}
 use Rattle.seal.specs.Sealing.{seal_outcome, check_outcome}
 use Rattle.hemmuzhan.specs.Suites.{suite_outcome, sealing_of}
 
 abbrev pub key_of : ℕ → ℕ → Key
 key_of first second = record { first = first; second = second }
-
--- a refusal stands, and a value is gone on with
-abbrev pub then : {A B : Type 0} → Outcome A → (A → Outcome B) → Outcome B
-then (gives x) next = next x
-then (refuses n) next = refuses n
 
 -- the seal, where a ring list of so many places is lent, and a list of so many places for the seal
 abbrev pub sealed_outcome : ℕ → ℕ → Key → ℕ → List ℕ → ℕ → ℕ → Outcome ℕ

@@ -2,6 +2,7 @@
 use Rattle.std.specs.Prelude.{◌≡◌, ℕ, ◌+◌, ◌≤◌, List, length, take, drop}
 use Rattle.refusal.specs.Outcomes.{Outcome, gives, refuses}
 use Rattle.sheet.specs.Sheets.{SealedSheet, sheet_bytes}
+use Rattle.hemmuzhan.specs.declared.sheets.Found.{Found}
 
 -- the bytes of a record before its text
 abbrev pub before_text : ℕ
@@ -18,6 +19,15 @@ seal_read read = read.0.seal
 
 abbrev pub text_length_read : SealedSheet × List ℕ → ℕ
 text_length_read read = length read.0.text
+
+-- the parts that the code gives
+abbrev pub found_in : SealedSheet × List ℕ → Found
+found_in read = record {
+  grave = grave_read read;
+  draw = draw_read read;
+  seal = seal_read read;
+  text_length = text_length_read read;
+}
 
 -- the text begins behind the first 24 bytes of the input, all of it is there, and the rest follows it
 pub record LiesIn (input : List ℕ) (read : SealedSheet × List ℕ) : Type 0 where

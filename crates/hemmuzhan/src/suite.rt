@@ -1,49 +1,45 @@
-// A field and a cipher, chosen by number: what a seal is made over.
+// A field and a cipher: what a seal is made over.
 ghost use Rattle.std.specs.Prelude.{◌≡◌, length, replicate};
 ghost use Rattle.refusal.specs.Outcomes.{told};
 ghost use Rattle.seal.specs.Sealing.{seal_outcome, check_outcome};
 ghost use Rattle.hemmuzhan.specs.Suites.{sealing_of, suite_outcome};
 
 use b63::B63;
-use chaskey::Chaskey;
+use ciphers::CipherName;
+use fields::FieldName;
 use m61::M61;
-use noekeon::Noekeon;
 use seal::{Key, Refusal, check_seal, seal_text};
 
-#[derive(Clone, Copy)]
-pub enum Suite {
-    M61Noekeon,
-    M61Chaskey,
-    B63Noekeon,
-    B63Chaskey,
-}
-
-pub fn suite_named(field: u8, cipher: u8) -> Result<Suite, Refusal>
-    ensures { told result ≡ suite_outcome field cipher }
-{
-    match (field, cipher) {
-        (0, 0) => Ok(Suite::M61Noekeon),
-        (0, 1) => Ok(Suite::M61Chaskey),
-        (1, 0) => Ok(Suite::B63Noekeon),
-        (1, 1) => Ok(Suite::B63Chaskey),
-        _ => Err(Refusal::Undefined),
-    }
+#[derive(Clone, Copy, PartialEq, Eq, Debug)]
+pub struct Suite {
+    pub field: FieldName,
+    pub cipher: CipherName,
 }
 
 impl Suite {
+    // The field and the cipher that two numbers name.
+    pub fn named(field: u8, cipher: u8) -> Result<Suite, Refusal>
+        ensures { told result ≡ suite_outcome field cipher }
+    {
+        Ok(Suite {
+            field: FieldName::try_from(field)?,
+            cipher: CipherName::try_from(cipher)?,
+        })
+    }
+
+    // The seal of the text. The ring list ends as zeros, whichever way the call ends.
     pub fn seal(self, key: Key, draw: u64, text: &[u8], ring: &mut [u64]) -> Result<u64, Refusal>
         ensures answer { told result ≡ seal_outcome (sealing_of self) key draw text.now (length ring.old) }
         ensures zeros { ring.new ≡ replicate (length ring.old) 0 }
     {
-        match self {
-            Suite::M61Noekeon => seal_text::<M61, Noekeon>(&mut Noekeon, key, draw, text, ring),
-            Suite::M61Chaskey => seal_text::<M61, Chaskey>(&mut Chaskey, key, draw, text, ring),
-            Suite::B63Noekeon => seal_text::<B63, Noekeon>(&mut Noekeon, key, draw, text, ring),
-            Suite::B63Chaskey => seal_text::<B63, Chaskey>(&mut Chaskey, key, draw, text, ring),
+        let Suite { field, mut cipher } = self;
+        match field {
+            FieldName::M61 => seal_text::<M61, CipherName>(&mut cipher, key, draw, text, ring),
+            FieldName::B63 => seal_text::<B63, CipherName>(&mut cipher, key, draw, text, ring),
         }
     }
 
-    // Whether a seal is the text's.
+    // Whether a seal is the text's. The ring list ends as zeros, whichever way the call ends.
     pub fn check(
         self,
         key: Key,
@@ -55,39 +51,14 @@ impl Suite {
         ensures answer { told result ≡ check_outcome (sealing_of self) key draw text.now seal (length ring.old) }
         ensures zeros { ring.new ≡ replicate (length ring.old) 0 }
     {
-        match self {
-            Suite::M61Noekeon => check_seal::<M61, Noekeon>(
-                &mut Noekeon,
-                key,
-                draw,
-                text,
-                seal,
-                ring,
-            ),
-            Suite::M61Chaskey => check_seal::<M61, Chaskey>(
-                &mut Chaskey,
-                key,
-                draw,
-                text,
-                seal,
-                ring,
-            ),
-            Suite::B63Noekeon => check_seal::<B63, Noekeon>(
-                &mut Noekeon,
-                key,
-                draw,
-                text,
-                seal,
-                ring,
-            ),
-            Suite::B63Chaskey => check_seal::<B63, Chaskey>(
-                &mut Chaskey,
-                key,
-                draw,
-                text,
-                seal,
-                ring,
-            ),
+        let Suite { field, mut cipher } = self;
+        match field {
+            FieldName::M61 => {
+                check_seal::<M61, CipherName>(&mut cipher, key, draw, text, seal, ring)
+            }
+            FieldName::B63 => {
+                check_seal::<B63, CipherName>(&mut cipher, key, draw, text, seal, ring)
+            }
         }
     }
 }

@@ -1,8 +1,9 @@
-// The library for C and Rust: each export is the call of the same name in `hemmuzhan`.
+// The library for C and Rust: numbers and lists alone go in and out, and an answer is 0 or a refusal's number. Keys come as
+// two numbers, and answers that are not a status go where a caller's reference says: C has neither structs of ours nor Result.
 #![tactic(auto)]
 
 ghost use Rattle.std.specs.Prelude.{◌≡◌, length, replicate};
-ghost use Rattle.refusal.specs.Outcomes.{mapped};
+ghost use Rattle.refusal.specs.Outcomes.{told, mapped};
 ghost use Rattle.fields.specs.Fields.{field_called, hash_over_field};
 ghost use Rattle.sheet.specs.Names.{sealed};
 ghost use Rattle.sheet.specs.Sheets.{read_outcome};
@@ -11,13 +12,57 @@ ghost use Rattle.hemmuzhan.specs.Calls.{key_of, sealed_outcome, checked_outcome,
 ghost use Rattle.hemmuzhan.specs.Values.{value_after};
 ghost use Rattle.hemmuzhan.specs.Sheets.{grave_read, draw_read, seal_read, text_length_read, Placed, RecordLength};
 
+use hemmuzhan::{Suite, find_sheet, write_sheet};
+use refusal::Refusal;
+use seal::{Key, Wipe};
+
+// 0, or the refusal's number.
+fn status<T: Drop>(answer: Result<T, Refusal>) -> u8
+    ensures { result ≡ status (told answer) }
+{
+    match answer {
+        Ok(_) => 0,
+        Err(refusal) => refusal.number(),
+    }
+}
+
+fn put_hash(field: u8, ring: &[u64], text: &[u8], hash: &mut u64) -> Result<(), Refusal>
+    ensures answer { status (told result) ≡ status (hash_over_field (field_called field) ring.now text.now) }
+    ensures hash { hash.new ≡ value_after (hash_over_field (field_called field) ring.now text.now) hash.old }
+{
+    *hash = hemmuzhan::hash(field, ring, text)?;
+    Ok(())
+}
+
 // Writes the text's hash under the ring to `hash`.
 #[unsafe(no_mangle)]
 pub extern "C" fn hemmuzhan_hash(field: u8, ring: &[u64], text: &[u8], hash: &mut u64) -> u8
     ensures answer { result ≡ status (hash_over_field (field_called field) ring.now text.now) }
     ensures hash { hash.new ≡ value_after (hash_over_field (field_called field) ring.now text.now) hash.old }
 {
-    hemmuzhan::hemmuzhan_hash(field, ring, text, hash)
+    status(put_hash(field, ring, text, hash))
+}
+
+fn put_seal(
+    field: u8,
+    cipher: u8,
+    key: Key,
+    draw: u64,
+    text: &[u8],
+    ring: &mut [u64],
+    seal: &mut [u64],
+) -> Result<(), Refusal>
+    ensures answer { status (told result) ≡ status (sealed_outcome field cipher key draw text.now (length ring.old) (length seal.old)) }
+    ensures seal { seal.new ≡ seal_after (sealed_outcome field cipher key draw text.now (length ring.old) (length seal.old)) seal.old }
+    ensures zeros { ring.new ≡ replicate (length ring.old) 0 }
+{
+    let guard = Wipe { ring };
+    let suite = Suite::named(field, cipher)?;
+    if seal.is_empty() {
+        return Err(Refusal::BufferTooShort);
+    }
+    seal[0] = suite.seal(key, draw, text, guard.ring)?;
+    Ok(())
 }
 
 // Writes the seal of the text to the first place of `seal`. The ring list ends as zeros, whichever way the call ends.
@@ -36,7 +81,33 @@ pub extern "C" fn hemmuzhan_seal(
     ensures seal { seal.new ≡ seal_after (sealed_outcome field cipher (key_of key_first key_second) draw text.now (length ring.old) (length seal.old)) seal.old }
     ensures zeros { ring.new ≡ replicate (length ring.old) 0 }
 {
-    hemmuzhan::hemmuzhan_seal(field, cipher, key_first, key_second, draw, text, ring, seal)
+    let key = Key {
+        first: key_first,
+        second: key_second,
+    };
+    status(put_seal(field, cipher, key, draw, text, ring, seal))
+}
+
+// A seal that is not the text's is refused.
+fn accept(
+    field: u8,
+    cipher: u8,
+    key: Key,
+    draw: u64,
+    text: &[u8],
+    seal: u64,
+    ring: &mut [u64],
+) -> Result<(), Refusal>
+    ensures answer { status (told result) ≡ verdict (checked_outcome field cipher key draw text.now seal (length ring.old)) }
+    ensures zeros { ring.new ≡ replicate (length ring.old) 0 }
+{
+    let guard = Wipe { ring };
+    let suite = Suite::named(field, cipher)?;
+    if suite.check(key, draw, text, seal, guard.ring)? {
+        Ok(())
+    } else {
+        Err(Refusal::SealWrong)
+    }
 }
 
 // Whether the seal is the text's: 0 where it is. The ring list ends as zeros, whichever way the call ends.
@@ -54,7 +125,11 @@ pub extern "C" fn hemmuzhan_check(
     ensures answer { result ≡ verdict (checked_outcome field cipher (key_of key_first key_second) draw text.now seal (length ring.old)) }
     ensures zeros { ring.new ≡ replicate (length ring.old) 0 }
 {
-    hemmuzhan::hemmuzhan_check(field, cipher, key_first, key_second, draw, text, seal, ring)
+    let key = Key {
+        first: key_first,
+        second: key_second,
+    };
+    status(accept(field, cipher, key, draw, text, seal, ring))
 }
 
 // Reads the sheet at the front of the input. Its text begins at byte 24 of the input, and ends its record.
@@ -73,7 +148,14 @@ pub extern "C" fn hemmuzhan_read_sheet(
     ensures length { text_length.new ≡ value_after (mapped text_length_read (read_outcome input.now)) text_length.old }
     ensures placed { Placed input.now (read_outcome input.now) }
 {
-    hemmuzhan::hemmuzhan_read_sheet(input, grave, draw, seal, text_length)
+    let found = find_sheet(input);
+    if let Ok(found) = found {
+        *grave = u64::from(found.grave);
+        *draw = found.draw;
+        *seal = found.seal;
+        *text_length = found.text_length;
+    }
+    status(found)
 }
 
 // Writes the sheet's record, 24 bytes and the text, to the front of the buffer.
@@ -89,5 +171,5 @@ pub extern "C" fn hemmuzhan_write_sheet(
     ensures buffer { buffer.new ≡ buffer_after (sealed grave draw seal text.now) buffer.old }
     ensures size { RecordLength (sealed grave draw seal text.now) }
 {
-    hemmuzhan::hemmuzhan_write_sheet(grave, draw, seal, text, buffer)
+    status(write_sheet(grave, draw, seal, text, buffer))
 }

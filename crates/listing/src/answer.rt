@@ -6,7 +6,7 @@ ghost use Rattle.listing.specs.Lines.{seen};
 ghost use Rattle.listing.specs.Names.{subkeys_read};
 
 use byte_rows::{take_u8, take_u64};
-use fields::{field_named, hash_over};
+use fields::{FieldName, hash_over};
 use refusal::Refusal;
 
 const HASH_KIND: u16 = 2;
@@ -42,9 +42,7 @@ pub fn answer(kind: u16, body: &[u8]) -> Result<u64, Refusal>
     let Some((count, after_count)) = take_u8(after_field) else {
         return Err(Refusal::RecordCutShort);
     };
-    let Some(field) = field_named(field) else {
-        return Err(Refusal::Undefined);
-    };
+    let field = FieldName::try_from(field)?;
     let count = count as usize;
     if count > MOST_SUBKEYS {
         return Err(Refusal::Undefined);

@@ -1,2 +1,2 @@
-mod TwoDigits
 pub mod Decided
+mod TwoDigits

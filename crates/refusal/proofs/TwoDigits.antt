@@ -1,6 +1,8 @@
--- Every refusal's number has two decimal digits at most. Assumes nothing.
-use Rattle.std.proofs.Common.{◌≡◌, ℕ, ◌/◌, ◌%◌, ◌<◌, List, ◌++◌, decimal, ap₂, arith, lit<}
-use Rattle.std.proofs.lemmas.Fmt.{decimal_digit}
+-- A number below a hundred, printed in two places, is its two digits. Assumes nothing.
+use Rattle.std.proofs.Common.{◌≡◌, ℕ, ◌-◌, ◌/◌, ◌%◌, ◌^◌, ◌<◌, ◌++◌, [], false, decimal, arith, lit<, ⊎_elim}
+use Rattle.std.specs.Fmt.{char_count, padded_integral, format_spec, styled_decimal}
+use Rattle.std.proofs.lemmas.Bool.{cases_lt}
+use Rattle.std.proofs.lemmas.Fmt.{decimal_digit, decimal_step}
 use Rattle.refusal.specs.declared.Refusal.{Refusal}
 use Rattle.refusal.specs.declared.Refusal.TheVariants.{
   GraveOutOfRange,
@@ -40,8 +42,15 @@ below_hundred RecordCutShort = lit< tt
 below_hundred Undefined = lit< tt
 below_hundred BufferTooShort = lit< tt
 
+in_two_places : (n : ℕ) → n < 100
+    → padded_integral (format_spec 32 0 4 2 (2 ^ 64 - 1)) false [] (decimal n) ≡ digit (n / 10) ++ digit (n % 10)
+unfolding padded_integral char_count
+in_two_places n few = ⊎_elim
+    (λ one. let tens : n / 10 ≡ 0 = omega arith in let ones : n % 10 ≡ n = omega arith in
+        rw (decimal_digit n one, tens, ones))
+    (λ two. rw (decimal_step n two (omega arith), decimal_digit (n / 10) (omega arith)))
+    (cases_lt n 10)
+
 pub two_digits : (r : Refusal) (n : ℕ) → n ≡ number_of r
-    → decimal (n / 10) ++ decimal (n % 10) ≡ digit (n / 10) ++ digit (n % 10)
-two_digits r n is =
-    let few = below_hundred r in
-    ap₂ (λ (a b : List ℕ). a ++ b) (decimal_digit (n / 10) (omega arith)) (decimal_digit (n % 10) (omega arith))
+    → styled_decimal (format_spec 32 0 4 2 (2 ^ 64 - 1)) n ≡ digit (number_of r / 10) ++ digit (number_of r % 10)
+two_digits r n is = rw is (in_two_places (number_of r) (below_hundred r))

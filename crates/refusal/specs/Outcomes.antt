@@ -17,6 +17,11 @@ abbrev pub mapped : {A B : Type 0} → (A → B) → Outcome A → Outcome B
 mapped f (gives x) = gives (f x)
 mapped f (refuses n) = refuses n
 
+-- a refusal stands, and a value is gone on with
+abbrev pub then : {A B : Type 0} → Outcome A → (A → Outcome B) → Outcome B
+then (gives x) next = next x
+then (refuses n) next = refuses n
+
 infix 70 ◌when◌
 -- a cause of refusal: the refusal's number, and whether the cause is there
 pub record Cause : Type 0 where

@@ -1,6 +1,7 @@
-use Rattle.std.proofs.Common.{◌≡◌, ℕ, ◌-◌, ◌≤◌, List, length, take, refl, ◌∙◌, arith}
+use Rattle.std.proofs.Common.{◌≡◌, ℕ, ◌-◌, ◌≤◌, List, length, take, sym, refl, ◌∙◌, arith}
 use Rattle.std.proofs.lemmas.List.{length-take}
 use Rattle.byte_rows.proofs.Fronts.{front_some}
+use Rattle.fields.proofs.Called.{called}
 use Rattle.listing.proofs.Requests.{opened, answered}
 use Rattle.listing.proofs.answer.answer.Goals as goal
 
@@ -18,6 +19,6 @@ returns c =
     answered (omega arith)
     (opened (front_some 1 body after_field c.in-Some.field c.in-Some.ensures)
     (front_some 1 after_field after_count n c.in-Some-take_u8.ensures))
-    c.in-Some-field_named.ensures few (places _ n refl few)
+    (sym (called c.in-Some.field c.in_ok-field.field c.in_ok-field.ensures)) few (places _ n refl few)
     c.in-Some-take_subkeys.ensures.rest (c.in-Some-take_subkeys.ensures.ring refl)
     c.hash_over.ensures

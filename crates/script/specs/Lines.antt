@@ -1,8 +1,8 @@
 -- What a line says: its first word names the call, and the parts behind it are the call's, in order. Assumes nothing.
 use Rattle.std.specs.Prelude.{ℕ, Bool, cond, ◌||◌, List, Ok, Err, vec_items, Result, ◌==◌, slice_index}
 use Rattle.cipher.specs.declared.Key.{Key}
-use Rattle.script.specs.declared.names.CipherName.{CipherName}
-use Rattle.script.specs.declared.names.FieldName.{FieldName}
+use Rattle.ciphers.specs.declared.CipherName.{CipherName}
+use Rattle.fields.specs.declared.FieldName.{FieldName}
 use Rattle.script.specs.declared.names.Name.{Name}
 use Rattle.script.specs.declared.names.Name.TheVariants as to
 use Rattle.script.specs.declared.line.Call.{Call}

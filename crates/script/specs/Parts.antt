@@ -2,13 +2,15 @@
 use Rattle.std.specs.Prelude.{◌≡◌, ℕ, cond, List, [], ◌∷◌, Some, None, Ok, Err, codes, Option, Result, ◌==◌, nat_le}
 use Rattle.std.specs.Str.{bytes_eq}
 use Rattle.cipher.specs.declared.Key.{Key}
-use Rattle.script.specs.declared.names.CipherName.{CipherName}
-use Rattle.script.specs.declared.names.FieldName.{FieldName}
+use Rattle.ciphers.specs.declared.CipherName.{CipherName}
+use Rattle.ciphers.specs.Ciphers.{cipher_spelled}
+use Rattle.fields.specs.declared.FieldName.{FieldName}
+use Rattle.fields.specs.Names.{field_spelled}
 use Rattle.script.specs.declared.names.Name.{Name}
 use Rattle.script.specs.declared.reason.Reason.{Reason}
 use Rattle.script.specs.declared.reason.Reason.TheVariants as is
 use Rattle.script.specs.Digits.{pairs}
-use Rattle.script.specs.Names.{field_called, cipher_called, name_of}
+use Rattle.script.specs.Names.{name_of}
 use Rattle.script.specs.Numbers.{number, the_seal_of, key_named}
 use Rattle.script.specs.Words.{skipped, has, before, behind, is_empty, word, after_word}
 
@@ -38,10 +40,10 @@ unfoldable pub name_part : List ℕ → Part Name
 name_part s = by_word name_of is.UnknownWord (word_part s)
 
 unfoldable pub field_part : List ℕ → Part FieldName
-field_part s = by_word field_called is.NotAField (word_part s)
+field_part s = by_word field_spelled is.NotAField (word_part s)
 
 unfoldable pub cipher_part : List ℕ → Part CipherName
-cipher_part s = by_word cipher_called is.NotACipher (word_part s)
+cipher_part s = by_word cipher_spelled is.NotACipher (word_part s)
 
 -- at most 64
 abbrev pub few : Part ℕ → Part ℕ

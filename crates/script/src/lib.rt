@@ -9,8 +9,9 @@ mod places;
 mod reason;
 mod words;
 
+pub use ciphers::CipherName;
 pub use fault::Fault;
+pub use fields::FieldName;
 pub use line::{Call, Line, read_line};
-pub use names::{CipherName, FieldName};
 pub use places::{MOST_PLACES, Places};
 pub use reason::Reason;

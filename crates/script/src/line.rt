@@ -4,11 +4,13 @@ ghost use Rattle.script.specs.Heard.{Heard};
 ghost use Rattle.script.specs.Lines.{said, form, blank_line, says};
 
 use crate::fault::Fault;
-use crate::names::{CipherName, FieldName, Name};
+use crate::names::Name;
 use crate::places::Places;
 use crate::reason::Reason;
 use crate::words::Words;
 use cipher::Key;
+use ciphers::CipherName;
+use fields::FieldName;
 use std::alloc::Global;
 
 #[derive(Drop)]

@@ -7,10 +7,12 @@ ghost use Rattle.script.specs.Words.{skipped, before, behind, is_empty};
 
 use crate::fault::Fault;
 use crate::hex::{key_of, seal_of, text_of};
-use crate::names::{CipherName, FieldName, Name};
+use crate::names::Name;
 use crate::places::Places;
 use crate::reason::Reason;
 use cipher::Key;
+use ciphers::CipherName;
+use fields::FieldName;
 use std::alloc::Global;
 use std::marker::Model;
 

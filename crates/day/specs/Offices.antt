@@ -1,14 +1,12 @@
--- A call of the script, made at the desk of the current book. Assumes nothing.
-use Rattle.std.specs.Prelude.{◌≡◌, ℕ, [], Some, None, Ok, Err, Option, Result, MatchOption}
-use Rattle.std.specs.declared.alloc.AllocError.{AllocError}
+-- A call of the script, made at the desk of a book. Assumes nothing.
+use Rattle.std.specs.Prelude.{◌≡◌, ℕ, [], Option, Result, MatchOption}
 use Rattle.refusal.specs.declared.Refusal.{Refusal}
-use Rattle.cipher.specs.declared.Block.{Block}
-use Rattle.cipher.specs.declared.Key.{Key}
-use Rattle.field.specs.Model.{Model}
 use Rattle.m61.specs.Mersenne.{m61}
 use Rattle.b63.specs.Binary.{b63}
-use Rattle.noekeon.specs.Noekeon.{noekeon}
-use Rattle.chaskey.specs.Chaskey.{chaskey}
+use Rattle.ciphers.specs.declared.CipherName.{CipherName}
+use Rattle.ciphers.specs.Ciphers.{function_of}
+use Rattle.fields.specs.declared.FieldName.{FieldName}
+use Rattle.fields.specs.Names.{model_of}
 use Rattle.seal.specs.Seals.{sealing}
 use Rattle.promise.specs.History.{to_open, to_check, to_clear, to_close}
 use Rattle.promise.specs.Records.{new}
@@ -17,10 +15,6 @@ use Rattle.graves.specs.declared.turns.Standing.{Standing}
 use Rattle.graves.specs.Checks.{checked_told}
 use Rattle.book.specs.Calls.{plain_told, account_told, tell_outcome, Owing}
 use Rattle.desk.specs.Desks.{State, state, PassedOn, Drawn, Sealed, Voided, Absent}
-use Rattle.script.specs.declared.names.CipherName.{CipherName}
-use Rattle.script.specs.declared.names.CipherName.TheVariants.{Noekeon, Chaskey}
-use Rattle.script.specs.declared.names.FieldName.{FieldName}
-use Rattle.script.specs.declared.names.FieldName.TheVariants.{M61, B63}
 use Rattle.script.specs.Lines.{Ask, open_it, draw_it, seal_it, void_it, check_it, clear_it, close_it, tell_it, owing}
 use Rattle.day.specs.declared.answer.Answer.{Answer}
 use Rattle.day.specs.declared.answer.Answer.TheVariants as is
@@ -52,29 +46,10 @@ Made d (tell_it g) p a d' =
     × (d' ≡ d)
 Made d owing p a d' = (r : Option ℕ) × (a ≡ is.Owing r) × Owing d.table r × (d' ≡ d)
 
--- the desk of the current book, if there is one
-abbrev pub desk_of : Office → Option State
-desk_of over.NoBook = None
-desk_of (over.M61Noekeon d) = Some (state m61 (λ _. noekeon) d)
-desk_of (over.M61Chaskey d) = Some (state m61 (λ _. chaskey) d)
-desk_of (over.B63Noekeon d) = Some (state b63 (λ _. noekeon) d)
-desk_of (over.B63Chaskey d) = Some (state b63 (λ _. chaskey) d)
-
-abbrev pub the_field : FieldName → Model
-the_field M61 = m61
-the_field B63 = b63
-
-abbrev pub the_cipher : CipherName → Key → Block → Block
-the_cipher Noekeon = noekeon
-the_cipher Chaskey = chaskey
+abbrev pub desk_of : Office → State
+desk_of (over.M61 d) = state m61 function_of d
+desk_of (over.B63 d) = state b63 function_of d
 
 -- a new book, and no draw in hand
 abbrev pub new_desk : FieldName → CipherName → State
-new_desk f c = record { sealing = sealing (the_field f) (the_cipher c); table = new; hand = [] }
-
--- a call at the current desk; without memory nothing changes
-abbrev pub Ran : Option State → Ask → ℕ → Result Answer AllocError → Option State → Type 0
-Ran None q p (Ok a) o = (a ≡ is.NoBook) × (o ≡ None)
-Ran None q p (Err e) o = o ≡ None
-Ran (Some d) q p (Ok a) o = (d' : State) × (o ≡ Some d') × Made d q p a d'
-Ran (Some d) q p (Err e) o = o ≡ Some d
+new_desk f c = record { sealing = sealing (model_of f) (function_of c); table = new; hand = [] }

@@ -13,6 +13,7 @@ use std::alloc::{AllocError, Global};
 mod answer;
 mod calls;
 mod office;
+mod shown;
 
 pub use answer::Answer;
 

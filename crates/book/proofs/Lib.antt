@@ -1,6 +1,4 @@
 mod Placed
-mod OpenedAt
-mod SealedAt
-mod CheckedAt
-mod Keys
 mod Finished
+mod Nowhere
+mod Idle

@@ -1,95 +1,85 @@
--- A call that its grave's record decides: what it answers and writes at that grave's place. Assumes nothing.
-use Rattle.std.proofs.Common.{◌≡◌, ℕ, ◌<◌, ◌≤◌, Bool, cond, List, [], ◌∷◌, ◌++◌, length, get_or, set, sym, refl, ap, ◌∙◌}
+-- A call that its grave's record decides: what it answers, and what it leaves at that grave's place. Assumes nothing.
+use Rattle.std.proofs.Common.{◌≡◌, ℕ, ◌<◌, true, false, cond, eqb, List, [], length, get_or, set, sym, refl, ap, ◌∙◌, subst}
 use lib.Seq.{map-set, set-get_or}
 use Rattle.std.proofs.lemmas.List.{get_or-map}
-use Rattle.std.proofs.lemmas.Bool.{le-ltb, lt-ltb}
 use Rattle.refusal.specs.Outcomes.{Outcome, gives, refuses, Cause, decided}
-use Rattle.refusal.proofs.Decided.{Absent, absent, undecided, alike}
-use Rattle.promise.specs.Records.{grave, free}
+use Rattle.refusal.proofs.Decided.{Absent, absent, undecided, same_value}
+use Rattle.seal.specs.Sealing.{Sealing}
+use Rattle.promise.specs.History.{Sheet, Standing}
+use Rattle.promise.specs.Records.{grave, free, after_false_seal}
 use Rattle.promise.specs.Records as rule
-use Rattle.promise.specs.Register.{named, written}
+use Rattle.promise.specs.Past.{standing}
+use Rattle.promise.specs.Register.{named, written, check_causes, after_check}
 use Rattle.graves.specs.declared.record.Record.{Record}
-use Rattle.book.specs.declared.calls.Account.{Account}
 use Rattle.graves.specs.Entries.{the_record, records}
-use Rattle.book.specs.Calls.{Told, told_of, account, tell_outcome}
+use Rattle.graves.specs.Turns.{TurnsBy, left}
+use Rattle.graves.specs.Checks.{after_answer}
+use Rattle.book.specs.Calls.{place_outcome}
 
--- causes that are not there, before others
-behind : {B : Type 0} (first cs : List Cause) (o : Outcome B) → Absent first → decided cs o ≡ decided (first ++ cs) o
-behind [] cs o none = refl
-behind {B} (c ∷ first) cs o none =
-    behind first cs o none.1
-    ∙ ap (λ (b : Bool). cond {A = Outcome B} b (refuses c.number) (decided (first ++ cs) o)) (sym none.0)
+-- a record that was left, put at its place, is what is written there
+left_at : (t : rule.Table) (g : ℕ) (o : Outcome rule.Record) → set t g (left (grave t g) o) ≡ written t g o
+left_at t g (gives r) = refl
+left_at t g (refuses n) = set-get_or t g free
 
--- the cause that comes first where a call names its grave: it is not there at a grave of the book
-abbrev pub no_such_grave : ℕ → List Cause
-no_such_grave g = named g []
+checked_at : (t : rule.Table) (g : ℕ) (o : Outcome Standing) → set t g (after_answer (grave t g) o) ≡ after_check t g o
+checked_at t g (gives v) = set-get_or t g free
+checked_at t g (refuses n) =
+    elim (eqb n 12) as (λ b. set t g (cond b (after_false_seal (grave t g)) (grave t g)) ≡ cond b (set t g (after_false_seal (grave t g))) t) [
+      | true ↦ refl
+      | false ↦ set-get_or t g free
+    ]
 
-pub within : (g : ℕ) → g ≤ 255 → Absent (no_such_grave g)
-within g in_book = (le-ltb 255 g in_book, tt)
+-- i is the place of grave g in the code's table, and these causes are not there
+pub record At (rs : List Record) (g i : ℕ) (first : List Cause) : Type 0 where
+  pub is : i ≡ g
+  pub there : i < length rs
+  pub none : Absent first
 
-module _ (rs : List Record) (g : ℕ) (d : Record) (there : g < length rs) where
+-- the call names the grave, and the code found its place
+pub by_name : (rs : List Record) (g k i : ℕ) → gives k ≡ place_outcome g → i ≡ k → i < length rs → At rs g i (named g [])
+by_name rs g k i found same there = record {
+  is = same ∙ same_value (named g []) g found;
+  there = there;
+  none = absent (named g []) g found;
+}
+
+-- the call's draw is of the grave
+pub by_draw : (rs : List Record) (g i : ℕ) → i ≡ g → i < length rs → At rs g i []
+by_draw rs g i is there = record { is = is; there = there; none = tt }
+
+module _ {rs : List Record} {g i : ℕ} {first : List Cause} (at : At rs g i first) (d : Record) where
   -- the grave's record, as the code and as the rules find it
-  abbrev found : rule.Record
-  found = the_record (get_or rs g d)
+  place : the_record (get_or rs i d) ≡ grave (records rs) g
+  place = sym (get_or-map the_record rs i d free at.there) ∙ ap (grave (records rs)) at.is
 
-  pub place : found ≡ grave (records rs) g
-  place = sym (get_or-map the_record rs g d free there)
+  put : (next : Record) (q : rule.Record) → the_record next ≡ q → records (set rs i next) ≡ set (records rs) g q
+  put next q is = map-set the_record rs i next ∙ ap (set (records rs) i) is ∙ ap (λ (j : ℕ). set (records rs) j q) at.is
 
-  -- By the causes that the grave's record gives, with any that come before them, the value that is answered, and the
-  -- record afterwards.
-  module _ {A : Type 0} (cs : rule.Record → List Cause) (v : rule.Record → A) (after : rule.Record → rule.Record)
-      (first : List Cause) (passed : Absent first) where
-    abbrev Answers : Outcome A → Type 0
-    Answers o = o ≡ decided (first ++ cs (grave (records rs) g)) (gives (v (grave (records rs) g)))
+  pub turned : {A : Type 0} (cs : rule.Record → List Cause) (v : rule.Record → A) (f : rule.Record → rule.Record)
+      (o : Outcome A) (next : Record) → TurnsBy cs v f (the_record (get_or rs i d)) o (the_record next)
+      → (o ≡ decided first (decided (cs (grave (records rs) g)) (gives (v (grave (records rs) g)))))
+      × (records (set rs i next) ≡ written (records rs) g (decided first (decided (cs (grave (records rs) g)) (gives (f (grave (records rs) g))))))
+  turned cs v f o next by =
+      let t = records rs in
+      let q = grave t g in
+      let by_rule : TurnsBy cs v f q o (the_record next) =
+      subst (λ (r : rule.Record). TurnsBy cs v f r o (the_record next)) place by in
+      let so : Outcome rule.Record = decided (cs q) (gives (f q)) in (
+        by_rule.answers ∙ undecided first (decided (cs q) (gives (v q))) at.none,
+        put next (left q so) by_rule.leaves ∙ left_at t g so ∙ ap (written t g) (undecided first so at.none),
+      )
 
-    abbrev Writes : rule.Table → Type 0
-    Writes t = t ≡ written (records rs) g (decided (first ++ cs (grave (records rs) g)) (gives (after (grave (records rs) g))))
-
-    by_rule : {B : Type 0} (f : rule.Record → B) → decided (cs found) (gives (f found))
-        ≡ decided (first ++ cs (grave (records rs) g)) (gives (f (grave (records rs) g)))
-    by_rule f =
-        ap (λ (q : rule.Record). decided (cs q) (gives (f q))) place
-        ∙ behind first (cs (grave (records rs) g)) (gives (f (grave (records rs) g))) passed
-
-    -- a refusal leaves every record, the lent one too
-    pub turned_away : (n : ℕ) → refuses n ≡ decided (cs found) (gives (after found))
-        → Answers (refuses n) × Writes (records (set rs g (get_or rs g d)))
-    turned_away n is = (
-      alike (cs found) n (after found) (gives (v found)) is ∙ by_rule v,
-      ap records (set-get_or rs g d) ∙ ap (written (records rs) g) (is ∙ by_rule after),
-    )
-
-    pub went_through : (next : Record) → gives (the_record next) ≡ decided (cs found) (gives (after found))
-        → Answers (gives (v found)) × Writes (records (set rs g next))
-    went_through next is = (
-      undecided (cs found) (gives (v found)) (absent (cs found) (after found) is) ∙ by_rule v,
-      map-set the_record rs g next ∙ ap (written (records rs) g) (is ∙ by_rule after),
-    )
-
-pub within_book : {B : Type 0} (g : ℕ) → g ≤ 255 → (cs : List Cause) (o : Outcome B) → decided cs o ≡ decided (named g cs) o
-within_book g in_book cs o = behind (no_such_grave g) cs o (within g in_book)
-
--- and at any other it is
-pub beyond : {A : Type 0} (g : ℕ) (cs : List Cause) (o : Outcome A) → 255 < g → refuses 1 ≡ decided (named g cs) o
-beyond {A} g cs o above = ap (λ (b : Bool). cond {A = Outcome A} b (refuses 1) (decided cs o)) (sym (lt-ltb 255 g above))
-
-pub turned_beyond : {A : Type 0} (t : rule.Table) (g : ℕ) (cs : List Cause) (v : A) (after : rule.Record) → 255 < g
-    → (refuses 1 ≡ decided (named g cs) (gives v)) × (t ≡ written t g (decided (named g cs) (gives after)))
-turned_beyond t g cs v after above = (
-  beyond g cs (gives v) above,
-  ap (written t g) (beyond g cs (gives after) above),
-)
-
--- what is told of a grave's record, with so many draws held
-abbrev told_with : rule.Record → ℕ → Told
-told_with q h = record { state = q.state; sealed = q.sealed; voided = q.voided; held = h; current = q.current }
-
-pub told_so : (rs : List Record) (g : ℕ) (d : Record) → g < length rs → g ≤ 255 → (h : ℕ)
-    → h ≡ length (the_record (get_or rs g d)).held → (a : Account) → account a ≡ told_with (the_record (get_or rs g d)) h
-    → gives (account a) ≡ tell_outcome (records rs) g
-told_so rs g d there within h counted a is =
-    ap gives
-    (is
-    ∙ ap (told_with (the_record (get_or rs g d))) counted
-    ∙ ap told_of (place rs g d there))
-    ∙ ap (λ (b : Bool). cond {A = Outcome Told} b (refuses 1) (gives (told_of (grave (records rs) g)))) (sym (le-ltb 255 g within))
+  pub checked : (S : Sealing) (s : Sheet) (p : ℕ) (o : Outcome Standing) (next : Record)
+      → o ≡ decided (check_causes S (the_record (get_or rs i d)) s p) (gives (standing (the_record (get_or rs i d)).current s.draw))
+      → the_record next ≡ after_answer (the_record (get_or rs i d)) o
+      → (o ≡ decided first (decided (check_causes S (grave (records rs) g) s p) (gives (standing (grave (records rs) g).current s.draw))))
+      × (records (set rs i next) ≡ after_check (records rs) g (decided first (decided (check_causes S (grave (records rs) g) s p) (gives (standing (grave (records rs) g).current s.draw)))))
+  checked S s p o next heard leaves =
+      let t = records rs in
+      let q = grave t g in
+      let so = λ (r : rule.Record). decided (check_causes S r s p) (gives (standing r.current s.draw)) in
+      let answered : o ≡ decided first (so q) = heard ∙ ap so place ∙ undecided first (so q) at.none in (
+        answered,
+        put next (after_answer q o) (leaves ∙ ap (λ (r : rule.Record). after_answer r o) place)
+            ∙ checked_at t g o ∙ ap (after_check t g) answered,
+      )

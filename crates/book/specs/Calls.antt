@@ -1,25 +1,61 @@
 -- What a call of the book's code did, by the rules. Assumes nothing.
-use Rattle.std.specs.Prelude.{◌≡◌, ℕ, ◌<◌, [], ◌∷◌, length, Some, None, Ok, Err, Option, Result, nat_lt}
+use Rattle.std.specs.Prelude.{◌≡◌, ℕ, ◌<◌, [], ◌∷◌, length, Some, None, Ok, Err, Option, Result}
 use Rattle.refusal.specs.declared.Refusal.{Refusal}
 use Rattle.refusal.specs.Numbers.{number_of}
-use Rattle.refusal.specs.Outcomes.{Outcome, gives, refuses, ◌when◌, decided}
+use Rattle.refusal.specs.Outcomes.{Outcome, gives, refuses, decided}
+use Rattle.cipher.specs.declared.Block.{Block}
+use Rattle.cipher.specs.declared.Key.{Key}
+use Rattle.field.specs.Model.{Model}
 use Rattle.seal.specs.Sealing.{Sealing}
-use Rattle.promise.specs.History.{Call, Given, event, History}
+use Rattle.seal.specs.Seals as seals
+use Rattle.promise.specs.History.{Call, Given, to_open, to_draw, to_seal, to_void, to_check, to_clear, to_close}
+use Rattle.promise.specs.History.{event, History}
 use Rattle.promise.specs.Records.{Table, Record, State, grave}
-use Rattle.promise.specs.Register.{answer, table, Reached}
+use Rattle.promise.specs.Register.{named, answer, table, Reached}
+use Rattle.book.specs.declared.calls.Book.{Book}
 use Rattle.book.specs.declared.calls.Draw.{Draw}
 use Rattle.book.specs.declared.calls.Returned.{Returned}
 use Rattle.book.specs.declared.calls.Account.{Account}
-use Rattle.graves.specs.States.{state}
+use Rattle.graves.specs.States as graves
+use Rattle.graves.specs.Entries.{records}
 
--- From a sealing and a table, the call c was answered by o, and left a sealing and a table.
-pub record Done (S : Sealing) (t : Table) (c : Call) (o : Outcome (Given c)) (S' : Sealing) (t' : Table) : Type 0 where
+-- a book as the rules have it, with its field and its cipher
+pub record BookState (F C : Type 0) : Type 0 where
+  pub field : F
+  pub cipher : C
+  pub sealing : Sealing
+  pub table : Table
+
+-- of a book over the field with model m, whose cipher has the function f
+abbrev pub state : {F C : Type 0} → Model → (C → Key → Block → Block) → Book F C → BookState F C
+state m f b = record {
+  field = b.field;
+  cipher = b.cipher;
+  sealing = seals.sealing m (f b.cipher);
+  table = records b.graves.table;
+}
+
+-- a call that does not ask the cipher leaves it as it was
+abbrev pub KeepsCipher : {C : Type 0} → Call → C → C → Type 0
+KeepsCipher (to_open g k) x x' = x' ≡ x
+KeepsCipher (to_draw g) x x' = x' ≡ x
+KeepsCipher (to_seal g d t p) x x' = Unit {0}
+KeepsCipher (to_void g d) x x' = x' ≡ x
+KeepsCipher (to_check g s p) x x' = Unit {0}
+KeepsCipher (to_clear g) x x' = x' ≡ x
+KeepsCipher (to_close g) x x' = x' ≡ x
+
+-- From state b, the call c was answered by o, and left state b'.
+pub record Done {F C : Type 0} (b : BookState F C) (c : Call) (o : Outcome (Given c)) (b' : BookState F C) : Type 0 where
   -- by the rules
-  pub answers : o ≡ answer S t c
-  pub writes : t' ≡ table S t c
-  pub keeps : S' ≡ S
+  pub answers : o ≡ answer b.sealing b.table c
+  pub writes : b'.table ≡ table b.sealing b.table c
+  pub keeps : b'.sealing ≡ b.sealing
+  -- over the same field and cipher
+  pub field : b'.field ≡ b.field
+  pub cipher : KeepsCipher c b.cipher b'.cipher
   -- so that every run that led to the book as it was goes on to the book as it is
-  pub goes_on : (h : History) → Reached S h t → Reached S' (event c o ∷ h) t'
+  pub goes_on : (h : History) → Reached b.sealing h b.table → Reached b'.sealing (event c o ∷ h) b'.table
 
 -- the outcomes that the code's answers stand for
 
@@ -31,9 +67,9 @@ abbrev pub sealed_told : Result ℕ Returned → Outcome ℕ
 sealed_told (Ok s) = gives s
 sealed_told (Err b) = refuses (number_of b.refusal)
 
-abbrev pub plain_told : Result (Unit {0}) Refusal → Outcome (Unit {0})
-plain_told (Ok u) = gives tt
-plain_told (Err w) = refuses (number_of w)
+-- the grave's number, or that there is no such grave
+abbrev pub place_outcome : ℕ → Outcome ℕ
+place_outcome g = decided (named g []) (gives g)
 
 -- what the book tells of a grave
 pub record Told : Type 0 where
@@ -54,7 +90,7 @@ told_of r = record {
 
 abbrev pub account : Account → Told
 account a = record {
-  state = state a.state;
+  state = graves.state a.state;
   sealed = a.sealed;
   voided = a.voided;
   held = a.held;
@@ -66,7 +102,7 @@ account_told (Ok a) = gives (account a)
 account_told (Err w) = refuses (number_of w)
 
 abbrev pub tell_outcome : Table → ℕ → Outcome Told
-tell_outcome t g = decided (1 when nat_lt 255 g ∷ []) (gives (told_of (grave t g)))
+tell_outcome t g = decided (named g []) (gives (told_of (grave t g)))
 
 -- a grave with held draws, or none where no grave has any
 abbrev pub Owing : Table → Option ℕ → Type 0

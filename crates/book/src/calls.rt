@@ -1,5 +1,6 @@
 // The book: 256 graves, one field and one cipher.
 ghost use Rattle.std.specs.Prelude.{◌≡◌, ℕ, ◌<◌, [], length, replicate, IfOk, IfErr};
+ghost use Rattle.refusal.specs.Outcomes.{told};
 ghost use Rattle.seal.specs.Seals.{sealing};
 ghost use Rattle.promise.specs.History.{to_open, to_draw, to_seal, to_void, to_check, to_clear, to_close};
 ghost use Rattle.promise.specs.Records.{new, is_used};
@@ -7,13 +8,12 @@ ghost use Rattle.promise.specs.Register.{Reached};
 ghost use Rattle.promise.specs.Promise.{Promise};
 ghost use Rattle.graves.specs.Entries.{records};
 ghost use Rattle.graves.specs.Checks.{checked_told, claimed};
-ghost use Rattle.book.specs.Calls.{Done, drawn_told, sealed_told, plain_told, account_told, tell_outcome, Owing};
+ghost use Rattle.book.specs.Calls.{state, Done, drawn_told, sealed_told, place_outcome, account_told, tell_outcome, Owing};
 
 use graves::entry::{Entry, State};
 use graves::held::Held;
 use graves::record::Record;
-use graves::turns::{Checked, Claim, Standing};
-use graves::{held, turns};
+use graves::turns::{Claim, Standing};
 use seal::{Cipher, Field, Key, Refusal, Wipe, seal_text};
 
 // A draw: the right to seal one sheet at a grave. Only `Book::draw` makes one, and only `Book::seal` and `Book::void`
@@ -76,8 +76,6 @@ const FREE: Record = Record {
     },
 };
 
-const LAST_GRAVE: u16 = 255;
-
 struct Graves {
     table: [Record; 256],
 }
@@ -91,10 +89,9 @@ pub struct Book<F, C> {
 impl<F: Field, C: Cipher> Book<F, C> {
     // A new book, all of whose graves are free. Its promise holds of every run of calls that begins here.
     pub fn new(field: F, cipher: C) -> Book<F, C>
-        ensures kept { (result.field ≡ field) × (result.cipher ≡ cipher) }
-        ensures table { records result.graves.table ≡ new }
-        ensures starts { Reached (sealing F.Field.model (C.Cipher.function result.cipher)) [] (records result.graves.table) }
-        ensures promise { Promise F.Field.model (sealing F.Field.model (C.Cipher.function result.cipher)) }
+        ensures state { state F.Field.model C.Cipher.function result ≡ record { field = field; cipher = cipher; sealing = sealing F.Field.model (C.Cipher.function cipher); table = new } }
+        ensures starts { let book = state F.Field.model C.Cipher.function result in Reached book.sealing [] book.table }
+        ensures promise { Promise F.Field.model (state F.Field.model C.Cipher.function result).sealing }
     {
         Book {
             field,
@@ -118,129 +115,65 @@ impl<F: Field, C: Cipher> Book<F, C> {
 
     // Hands out the grave's next draw.
     pub fn draw(&mut self, grave: u16) -> Result<Draw, Refusal>
-        ensures done { Done (sealing F.Field.model (C.Cipher.function self.old.cipher)) (records self.old.graves.table) (to_draw grave) (drawn_told result) (sealing F.Field.model (C.Cipher.function self.new.cipher)) (records self.new.graves.table) }
+        ensures done { Done (state F.Field.model C.Cipher.function self.old) (to_draw grave) (drawn_told result) (state F.Field.model C.Cipher.function self.new) }
         ensures token { IfOk result (λ d. d.grave ≡ grave) }
-        ensures kept { (self.new.field ≡ self.old.field) × (self.new.cipher ≡ self.old.cipher) }
     {
-        if grave > LAST_GRAVE {
-            return Err(Refusal::GraveOutOfRange);
-        }
-        let record = &mut self.graves.table[grave as usize];
-        let number = record.entry.next;
-        match turns::drawn(*record) {
-            Err(refusal) => Err(refusal),
-            Ok(after) => {
-                *record = after;
-                Ok(Draw {
-                    grave: grave as u8,
-                    number,
-                })
-            }
-        }
+        let grave = place(grave)?;
+        let number = self.graves.table[usize::from(grave)].draw()?;
+        Ok(Draw { grave, number })
     }
 
     // Takes the draw in every case, and says why where it was not voided.
     pub fn void(&mut self, draw: Draw) -> Result<(), Refusal>
-        ensures done { Done (sealing F.Field.model (C.Cipher.function self.old.cipher)) (records self.old.graves.table) (to_void draw.grave draw.number) (plain_told result) (sealing F.Field.model (C.Cipher.function self.new.cipher)) (records self.new.graves.table) }
-        ensures kept { (self.new.field ≡ self.old.field) × (self.new.cipher ≡ self.old.cipher) }
+        ensures { Done (state F.Field.model C.Cipher.function self.old) (to_void draw.grave draw.number) (told result) (state F.Field.model C.Cipher.function self.new) }
     {
-        let grave = draw.grave;
-        let number = draw.number;
-        draw.spend();
-        let record = &mut self.graves.table[grave as usize];
-        match turns::voided(*record, number) {
-            Err(refusal) => Err(refusal),
-            Ok(after) => {
-                *record = after;
-                Ok(())
-            }
-        }
+        let Draw { grave, number } = draw;
+        let record = &mut self.graves.table[usize::from(grave)];
+        record.void(number)
     }
 
     // False seals become none, and a locked grave is open.
     pub fn clear(&mut self, grave: u16) -> Result<(), Refusal>
-        ensures done { Done (sealing F.Field.model (C.Cipher.function self.old.cipher)) (records self.old.graves.table) (to_clear grave) (plain_told result) (sealing F.Field.model (C.Cipher.function self.new.cipher)) (records self.new.graves.table) }
-        ensures kept { (self.new.field ≡ self.old.field) × (self.new.cipher ≡ self.old.cipher) }
+        ensures { Done (state F.Field.model C.Cipher.function self.old) (to_clear grave) (told result) (state F.Field.model C.Cipher.function self.new) }
     {
-        if grave > LAST_GRAVE {
-            return Err(Refusal::GraveOutOfRange);
-        }
-        let record = &mut self.graves.table[grave as usize];
-        match turns::cleared(*record) {
-            Err(refusal) => Err(refusal),
-            Ok(after) => {
-                *record = after;
-                Ok(())
-            }
-        }
+        let grave = place(grave)?;
+        let record = &mut self.graves.table[usize::from(grave)];
+        record.clear()
     }
 
     // Closes the grave for good; the draws that it holds count as voided.
     pub fn close(&mut self, grave: u16) -> Result<(), Refusal>
-        ensures done { Done (sealing F.Field.model (C.Cipher.function self.old.cipher)) (records self.old.graves.table) (to_close grave) (plain_told result) (sealing F.Field.model (C.Cipher.function self.new.cipher)) (records self.new.graves.table) }
-        ensures kept { (self.new.field ≡ self.old.field) × (self.new.cipher ≡ self.old.cipher) }
+        ensures { Done (state F.Field.model C.Cipher.function self.old) (to_close grave) (told result) (state F.Field.model C.Cipher.function self.new) }
     {
-        if grave > LAST_GRAVE {
-            return Err(Refusal::GraveOutOfRange);
-        }
-        let record = &mut self.graves.table[grave as usize];
-        match turns::closed(*record) {
-            Err(refusal) => Err(refusal),
-            Ok(after) => {
-                *record = after;
-                Ok(())
-            }
-        }
+        let grave = place(grave)?;
+        let record = &mut self.graves.table[usize::from(grave)];
+        record.close()
     }
 
     // Opens a free grave with a key that no grave of this book has or had.
     pub fn open(&mut self, grave: u16, key: Key) -> Result<(), Refusal>
-        ensures done { Done (sealing F.Field.model (C.Cipher.function self.old.cipher)) (records self.old.graves.table) (to_open grave key) (plain_told result) (sealing F.Field.model (C.Cipher.function self.new.cipher)) (records self.new.graves.table) }
-        ensures kept { (self.new.field ≡ self.old.field) × (self.new.cipher ≡ self.old.cipher) }
+        ensures { Done (state F.Field.model C.Cipher.function self.old) (to_open grave key) (told result) (state F.Field.model C.Cipher.function self.new) }
     {
-        if grave > LAST_GRAVE {
-            return Err(Refusal::GraveOutOfRange);
-        }
-        let before = self.graves.table[grave as usize];
-        match turns::opened(before, key) {
-            Err(refusal) => Err(refusal),
-            Ok(after) => {
-                if key_used(&self.graves.table, key) {
-                    return Err(Refusal::KeyUsed);
-                }
-                let record = &mut self.graves.table[grave as usize];
-                *record = after;
-                Ok(())
-            }
-        }
+        let grave = place(grave)?;
+        let used = key_used(&self.graves.table, key);
+        let record = &mut self.graves.table[usize::from(grave)];
+        record.open(key, used)
     }
 
     // Seals a text under the draw, or hands the draw back. A lock does not stop it.
     pub fn seal(&mut self, draw: Draw, text: &[u8], ring: &mut [u64]) -> Result<u64, Returned>
-        ensures done { Done (sealing F.Field.model (C.Cipher.function self.old.cipher)) (records self.old.graves.table) (to_seal draw.grave draw.number text.now (length ring.old)) (sealed_told result) (sealing F.Field.model (C.Cipher.function self.new.cipher)) (records self.new.graves.table) }
+        ensures done { Done (state F.Field.model C.Cipher.function self.old) (to_seal draw.grave draw.number text.now (length ring.old)) (sealed_told result) (state F.Field.model C.Cipher.function self.new) }
         ensures back { IfErr result (λ b. b.draw ≡ draw) }
         ensures zeros { ring.new ≡ replicate (length ring.old) 0 }
-        ensures kept { self.new.field ≡ self.old.field }
     {
         let guard = Wipe { ring };
-        let record = &mut self.graves.table[draw.grave as usize];
-        let key = record.entry.key;
-        match turns::sealed(*record, draw.number) {
+        let record = &mut self.graves.table[usize::from(draw.grave)];
+        match record.seal::<F, C>(&mut self.cipher, draw.number, text, guard.ring) {
             Err(refusal) => Err(Returned { refusal, draw }),
-            Ok(spent) => match seal_text::<F, C>(
-                &mut self.cipher,
-                key,
-                draw.number,
-                text,
-                guard.ring,
-            ) {
-                Err(refusal) => Err(Returned { refusal, draw }),
-                Ok(seal) => {
-                    draw.spend();
-                    *record = spent;
-                    Ok(seal)
-                }
-            },
+            Ok(seal) => {
+                draw.spend();
+                Ok(seal)
+            }
         }
     }
 
@@ -251,37 +184,26 @@ impl<F: Field, C: Cipher> Book<F, C> {
         claim: Claim<'_>,
         ring: &mut [u64],
     ) -> Result<Standing, Refusal>
-        ensures done { Done (sealing F.Field.model (C.Cipher.function self.old.cipher)) (records self.old.graves.table) (to_check grave (claimed claim.entry) (length ring.old)) (checked_told result) (sealing F.Field.model (C.Cipher.function self.new.cipher)) (records self.new.graves.table) }
+        ensures done { Done (state F.Field.model C.Cipher.function self.old) (to_check grave (claimed claim.entry) (length ring.old)) (checked_told result) (state F.Field.model C.Cipher.function self.new) }
         ensures zeros { ring.new ≡ replicate (length ring.old) 0 }
-        ensures kept { self.new.field ≡ self.old.field }
     {
         let wiping = Wipe { ring };
-        if grave > LAST_GRAVE {
-            return Err(Refusal::GraveOutOfRange);
-        }
-        let record = &mut self.graves.table[grave as usize];
-        let Checked {
-            answer,
-            after: left,
-        } = turns::check_at::<F, C>(&mut self.cipher, *record, claim, wiping.ring);
-        *record = left;
-        answer
+        let grave = place(grave)?;
+        let record = &mut self.graves.table[usize::from(grave)];
+        record.check::<F, C>(&mut self.cipher, claim, wiping.ring)
     }
 
     // State, counts and current draw of a grave.
     pub fn tell(&self, grave: u16) -> Result<Account, Refusal>
         ensures { account_told result ≡ tell_outcome (records self.now.graves.table) grave }
     {
-        if grave > LAST_GRAVE {
-            return Err(Refusal::GraveOutOfRange);
-        }
-        let table = &self.graves.table;
-        let entry = table[grave as usize].entry;
+        let grave = place(grave)?;
+        let entry = self.graves.table[usize::from(grave)].entry;
         Ok(Account {
             state: entry.state,
             sealed: entry.sealed,
             voided: entry.voided,
-            held: held::count(entry.held),
+            held: entry.held.count(),
             current: entry.current,
         })
     }
@@ -290,23 +212,25 @@ impl<F: Field, C: Cipher> Book<F, C> {
     pub fn owing(&self) -> Option<u8>
         ensures owing { Owing (records self.now.graves.table) result }
     {
-        for (grave, record) in self.graves.table.iter().enumerate() {
-            if held::count(record.entry.held) > 0 {
-                return Some(grave as u8);
-            }
-        }
-        None
+        let grave = self
+            .graves
+            .table
+            .iter()
+            .position(|record| record.entry.held.count() > 0)?;
+        Some(grave as u8)
     }
+}
+
+// The number of a grave of the book, which is its place in the table.
+fn place(grave: u16) -> Result<u8, Refusal>
+    ensures { told result ≡ place_outcome grave }
+{
+    u8::try_from(grave).map_err(|_| Refusal::GraveOutOfRange)
 }
 
 // Whether a grave that is not free has the key.
 fn key_used(table: &[Record], key: Key) -> bool
     ensures { result ≡ is_used (records table.now) key }
 {
-    for record in table {
-        if turns::holds_key(record.entry, key) {
-            return true;
-        }
-    }
-    false
+    table.iter().any(|record| record.holds_key(key))
 }

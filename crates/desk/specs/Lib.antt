@@ -1,4 +1,4 @@
 pub mod Hands
-pub mod Places
-pub mod Desks
+pub mod Taking
 pub mod Endings
+pub mod Desks

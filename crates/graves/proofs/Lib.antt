@@ -1,1 +1,2 @@
 mod Removed
+mod Refused

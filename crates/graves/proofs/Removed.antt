@@ -2,7 +2,10 @@
 use Rattle.std.proofs.Common.{◌≡◌, ℕ, suc, ◌+◌, Bool, true, false, cond, not, ◌&&◌, ◌||◌, eqb, ltb, List, [], ◌∷◌, length, Some, None, sym, refl, ap, ◌∙◌, ap₂, arith}
 use Rattle.std.proofs.lemmas.Bool.{and_parts, true≢false, not-true}
 use Rattle.promise.specs.Draws.{holds, without}
-use Rattle.graves.specs.Sound.{all_different, all_below}
+use Rattle.graves.specs.declared.held.Held.{Held}
+use Rattle.graves.specs.declared.record.Record.{Record}
+use Rattle.graves.specs.Held.{draws}
+use Rattle.graves.specs.Sound.{all_different, all_below, Uncounted}
 
 or_false : (a b : Bool) → (a || b) ≡ false → (a ≡ false) × (b ≡ false)
 or_false true b e = absurd (true≢false e)
@@ -46,23 +49,26 @@ one_fewer d (e ∷ es) h =
     ] in
     by_test h
 
--- of draws ds that are held soundly, below n, those that are left once d was found among them and taken out
-pub record Left (n : ℕ) (ds ks : List ℕ) : Type 0 where
-  pub soundly : (all_different ks && all_below n ks) ≡ true
-  pub fewer : length ks + 1 ≡ length ds
-
-pub taken_out : (n d : ℕ) (ds ks : List ℕ) → (all_different ds && all_below n ds) ≡ true
-    → Some ks ≡ cond (holds d ds) (Some (without d ds)) None → Left n ds ks
-taken_out n d ds ks soundly is =
-    let found : (holds d ds ≡ true) × (ks ≡ without d ds) = chosen (holds d ds) is in
-    let parts = and_parts (all_different ds) (all_below n ds) soundly in
+-- what a record says once a draw was found among those that it holds, and is taken out
+pub taken_out : (r : Record) (d : ℕ) (left : Held)
+    → Some (draws left) ≡ cond (holds d (draws r.entry.held)) (Some (without d (draws r.entry.held))) None
+    → Uncounted (record r.entry { held = left })
+taken_out r d left is =
+    let n = r.entry.next in
+    let ds = draws r.entry.held in
+    let found : (holds d ds ≡ true) × (draws left ≡ without d ds) = chosen (holds d ds) is in
+    let parts = and_parts (all_different ds) (all_below n ds) r.held in
+    let fewer : length (draws left) + 1 ≡ length ds =
+    ap (λ (xs : List ℕ). length xs + 1) found.1 ∙ one_fewer d ds found.0 in
     record {
       soundly =
           ap (λ (xs : List ℕ). all_different xs && all_below n xs) found.1
           ∙ ap₂ ◌&&◌ (different_still d ds parts.0) (below_still n d ds parts.1);
-      fewer = ap (λ (xs : List ℕ). length xs + 1) found.1 ∙ one_fewer d ds found.0;
+      one_short = omega (arith, r.counts);
+      few = r.few;
     }
   where
-    chosen : (t : Bool) → Some ks ≡ cond t (Some (without d ds)) None → (t ≡ true) × (ks ≡ without d ds)
+    chosen : (t : Bool) → Some (draws left) ≡ cond t (Some (without d (draws r.entry.held))) None
+        → (t ≡ true) × (draws left ≡ without d (draws r.entry.held))
     chosen true e = (refl, cc)
     chosen false e = let never : ◌≡◌ {A = ℕ} 0 1 = cc in absurd (omega arith)

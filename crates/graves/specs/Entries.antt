@@ -33,6 +33,10 @@ abbrev pub turned : Result Record Refusal → Outcome rule.Record
 turned (Ok r) = gives (the_record r)
 turned (Err w) = refuses (number_of w)
 
+abbrev pub given : Result Entry Refusal → Outcome rule.Record
+given (Ok e) = gives (entry e)
+given (Err w) = refuses (number_of w)
+
 abbrev pub standing_told : Standing → heard.Standing
 standing_told Current = heard.current
 standing_told Superseded = heard.superseded

@@ -1,5 +1,5 @@
 -- What holds of every record that can exist. Assumes nothing.
-use Rattle.std.specs.Prelude.{ℕ, ◌+◌, Bool, true, not, ◌&&◌, List, [], ◌∷◌, length, nat_lt}
+use Rattle.std.specs.Prelude.{◌≡◌, ℕ, ◌+◌, ◌≤◌, Bool, true, not, ◌&&◌, List, [], ◌∷◌, length, nat_lt}
 use Rattle.promise.specs.Draws.{holds}
 use Rattle.graves.specs.declared.entry.Entry.{Entry}
 use Rattle.graves.specs.Held.{draws}
@@ -18,3 +18,9 @@ held_soundly e = all_different (draws e.held) && all_below e.next (draws e.held)
 
 abbrev pub handed_out : Entry → ℕ
 handed_out e = (e.sealed + e.voided) + length (draws e.held)
+
+-- a held draw was given up here, and is not counted as sealed or voided yet
+pub record Uncounted (e : Entry) : Type 0 where
+  pub soundly : held_soundly e ≡ true
+  pub one_short : handed_out e + 1 ≡ e.next
+  pub few : e.next ≤ 1000000

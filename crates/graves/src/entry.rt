@@ -27,27 +27,29 @@ pub enum Event {
     Close,
 }
 
-// The state after an event, or why the event is refused.
-pub fn next_state(state: State, event: Event) -> Result<State, Refusal>
-    ensures { stated result ≡ next_outcome state event }
-{
-    match (state, event) {
-        (State::Free, Event::Open) => Ok(State::Open { false_seals: 0 }),
-        (_, Event::Open) => Err(Refusal::GraveNotFree),
-        (State::Free | State::Closed, _) => Err(Refusal::GraveFreeOrClosed),
-        (State::Locked, Event::Draw | Event::FalseSeal) => Err(Refusal::GraveLocked),
-        (State::Open { false_seals }, Event::FalseSeal) => {
-            if false_seals < 3 {
-                Ok(State::Open {
-                    false_seals: false_seals + 1,
-                })
-            } else {
-                Ok(State::Locked)
+impl State {
+    // The state after an event, or why the event is refused.
+    pub fn after(self, event: Event) -> Result<State, Refusal>
+        ensures { stated result ≡ next_outcome self event }
+    {
+        match (self, event) {
+            (State::Free, Event::Open) => Ok(State::Open { false_seals: 0 }),
+            (_, Event::Open) => Err(Refusal::GraveNotFree),
+            (State::Free | State::Closed, _) => Err(Refusal::GraveFreeOrClosed),
+            (State::Locked, Event::Draw | Event::FalseSeal) => Err(Refusal::GraveLocked),
+            (State::Open { false_seals }, Event::FalseSeal) => {
+                if false_seals < 3 {
+                    Ok(State::Open {
+                        false_seals: false_seals + 1,
+                    })
+                } else {
+                    Ok(State::Locked)
+                }
             }
+            (_, Event::Clear) => Ok(State::Open { false_seals: 0 }),
+            (_, Event::Close) => Ok(State::Closed),
+            (_, Event::Draw | Event::Seal | Event::Void) => Ok(self),
         }
-        (_, Event::Clear) => Ok(State::Open { false_seals: 0 }),
-        (_, Event::Close) => Ok(State::Closed),
-        (_, Event::Draw | Event::Seal | Event::Void) => Ok(state),
     }
 }
 

@@ -1,157 +1,32 @@
-// What each call makes of its grave's record, or why it is refused there.
-ghost use Rattle.std.specs.Prelude.{◌≡◌, not, ◌&&◌, length};
-ghost use Rattle.refusal.specs.Numbers.{number_of};
-ghost use Rattle.refusal.specs.Outcomes.{gives, refuses, decided};
-ghost use Rattle.promise.specs.Records.{is_free, same_key, after_open, after_draw, after_seal, after_void, after_clear, after_close, after_false_seal};
+// What each call makes of its grave's record, or why it is refused there. A call that is refused leaves the record, but
+// for a check's false seal.
+ghost use Rattle.std.specs.Prelude.{◌≡◌, not, ◌&&◌, length, IfOk};
+ghost use Rattle.refusal.specs.Outcomes.{gives, told, decided};
+ghost use Rattle.promise.specs.Records.{is_free, same_key, with_state, after_open, after_draw, after_seal, after_void, after_clear, after_close};
 ghost use Rattle.seal.specs.Seals.{sealing};
-ghost use Rattle.promise.specs.Register.{draw_causes, void_causes, use_causes, check_causes};
+ghost use Rattle.promise.specs.Register.{draw_causes, seal_causes, void_causes, use_causes, check_causes};
 ghost use Rattle.promise.specs.Past as rule;
-ghost use Rattle.graves.specs.Entries.{the_record, turned, standing_told};
-ghost use Rattle.graves.specs.States.{state};
-ghost use Rattle.graves.specs.Turns.{open_here, check_here};
+ghost use Rattle.graves.specs.Entries.{the_record, turned, given, standing_told};
+ghost use Rattle.graves.specs.States.{state, state_causes, state_after};
+ghost use Rattle.graves.specs.Turns.{TurnsBy, open_here, give_up_causes, with_held};
+ghost use Rattle.graves.specs.Held.{draws};
+ghost use Rattle.graves.specs.Sound.{Uncounted};
+ghost use Rattle.promise.specs.Draws.{without};
 ghost use Rattle.graves.specs.Checks.{claimed, checked_told, after_answer};
 
-use crate::entry::{Entry, Event, State, next_state};
-use crate::held;
+use crate::entry::{Entry, Event, State};
 use crate::held::Held;
 use crate::record::Record;
-use seal::{Cipher, Field, Key, Refusal, admit, check_seal};
+use seal::{Cipher, Field, Key, Refusal, admit, check_seal, seal_text};
 
 // How many draws a grave hands out in all.
 const MOST_DRAWS: u64 = 1_000_000;
-
-// Whether the record is of a grave that has or had the key.
-pub fn holds_key(entry: Entry, key: Key) -> bool
-    ensures { result ≡ (not (is_free (state entry.state)) && same_key entry.key key) }
-{
-    let used = !matches!(entry.state, State::Free);
-    used && entry.key.first == key.first && entry.key.second == key.second
-}
-
-pub fn opened(before: Record, key: Key) -> Result<Record, Refusal>
-    ensures { turned result ≡ decided (open_here (the_record before)) (gives (after_open key (the_record before))) }
-{
-    let entry = before.entry;
-    let state = next_state(entry.state, Event::Open)?;
-    Ok(Record {
-        entry: Entry {
-            state,
-            key,
-            ..entry
-        },
-    })
-}
-
-pub fn drawn(before: Record) -> Result<Record, Refusal>
-    ensures { turned result ≡ decided (draw_causes (the_record before)) (gives (after_draw (the_record before))) }
-{
-    let entry = before.entry;
-    let state = next_state(entry.state, Event::Draw)?;
-    let Some(held) = held::push(entry.held, entry.next) else {
-        return Err(Refusal::FourDrawsHeld);
-    };
-    if entry.next >= MOST_DRAWS {
-        return Err(Refusal::DrawsExhausted);
-    }
-    Ok(Record {
-        entry: Entry {
-            state,
-            next: entry.next + 1,
-            held,
-            ..entry
-        },
-    })
-}
-
-pub fn sealed(before: Record, draw: u64) -> Result<Record, Refusal>
-    ensures { turned result ≡ decided (void_causes (the_record before) draw) (gives (after_seal draw (the_record before))) }
-{
-    let entry = before.entry;
-    let state = next_state(entry.state, Event::Seal)?;
-    let Some(held) = held::remove(entry.held, draw) else {
-        return Err(Refusal::DrawNotHeld);
-    };
-    Ok(Record {
-        entry: Entry {
-            state,
-            held,
-            sealed: entry.sealed + 1,
-            current: Some(draw),
-            ..entry
-        },
-    })
-}
-
-pub fn voided(before: Record, draw: u64) -> Result<Record, Refusal>
-    ensures { turned result ≡ decided (void_causes (the_record before) draw) (gives (after_void draw (the_record before))) }
-{
-    let entry = before.entry;
-    let state = next_state(entry.state, Event::Void)?;
-    let Some(held) = held::remove(entry.held, draw) else {
-        return Err(Refusal::DrawNotHeld);
-    };
-    Ok(Record {
-        entry: Entry {
-            state,
-            held,
-            voided: entry.voided + 1,
-            ..entry
-        },
-    })
-}
-
-// The record with one false seal more, which the fourth locks; refused where a check is.
-pub fn with_false_seal(before: Record) -> Result<Record, Refusal>
-    ensures { turned result ≡ decided (check_here (the_record before)) (gives (after_false_seal (the_record before))) }
-{
-    let entry = before.entry;
-    let state = next_state(entry.state, Event::FalseSeal)?;
-    Ok(Record {
-        entry: Entry { state, ..entry },
-    })
-}
-
-pub fn cleared(before: Record) -> Result<Record, Refusal>
-    ensures { turned result ≡ decided (use_causes (the_record before)) (gives (after_clear (the_record before))) }
-{
-    let entry = before.entry;
-    let state = next_state(entry.state, Event::Clear)?;
-    Ok(Record {
-        entry: Entry { state, ..entry },
-    })
-}
-
-// The held draws count as voided.
-pub fn closed(before: Record) -> Result<Record, Refusal>
-    ensures { turned result ≡ decided (use_causes (the_record before)) (gives (after_close (the_record before))) }
-{
-    let entry = before.entry;
-    let state = next_state(entry.state, Event::Close)?;
-    let owed = held::count(entry.held);
-    Ok(Record {
-        entry: Entry {
-            state,
-            held: Held::Zero,
-            voided: entry.voided + owed,
-            ..entry
-        },
-    })
-}
 
 // What an accepted sheet is: of the grave's newest draw, or of an older one.
 #[derive(Clone, Copy, PartialEq, Eq, Debug)]
 pub enum Standing {
     Current,
     Superseded,
-}
-
-pub fn standing_of(current: Option<u64>, draw: u64) -> Standing
-    ensures { standing_told result ≡ rule.standing current draw }
-{
-    match current {
-        Some(newest) if newest == draw => Standing::Current,
-        _ => Standing::Superseded,
-    }
 }
 
 // A sheet's parts, as they are given to a check.
@@ -162,49 +37,162 @@ pub struct Claim<'a> {
     pub seal: u64,
 }
 
-// The answer to a check, and the record afterwards.
-pub struct Checked {
-    pub answer: Result<Standing, Refusal>,
-    pub after: Record,
-}
+impl Record {
+    // Whether the record is of a grave that has or had the key.
+    pub fn holds_key(&self, key: Key) -> bool
+        ensures { result ≡ (not (is_free (state self.now.entry.state)) && same_key self.now.entry.key key) }
+    {
+        let used = !matches!(self.entry.state, State::Free);
+        used && self.entry.key == key
+    }
 
-fn turned_away(refusal: Refusal, after: Record) -> Checked
-    ensures { (checked_told result.answer ≡ refuses (number_of refusal)) × (result.after ≡ after) }
-{
-    Checked {
-        answer: Err(refusal),
-        after,
+    // The standing of a true sheet under the draw.
+    pub fn standing_of(&self, draw: u64) -> Standing
+        ensures { standing_told result ≡ rule.standing self.now.entry.current draw }
+    {
+        match self.entry.current {
+            Some(newest) if newest == draw => Standing::Current,
+            _ => Standing::Superseded,
+        }
     }
-}
 
-// The cipher is asked only where no earlier test refuses; a false seal is counted, and nothing else changes.
-pub fn check_at<F: Field, C: Cipher>(
-    cipher: &mut C,
-    before: Record,
-    claim: Claim<'_>,
-    ring: &mut [u64],
-) -> Checked
-    ensures answer { checked_told result.answer ≡ decided (check_causes (sealing F.Field.model (C.Cipher.function cipher.old)) (the_record before) (claimed claim.entry) (length ring.old)) (gives (rule.standing before.entry.current claim.entry.draw)) }
-    ensures after { the_record result.after ≡ after_answer (the_record before) (checked_told result.answer) }
-    ensures kept { C.Cipher.function cipher.new ≡ C.Cipher.function cipher.old }
-{
-    let entry = before.entry;
-    let counted = match with_false_seal(before) {
-        Err(refusal) => return turned_away(refusal, before),
-        Ok(counted) => counted,
-    };
-    if let Err(refusal) = admit(claim.text, ring.len()) {
-        return turned_away(refusal, before);
+    // The state goes on, and nothing else changes.
+    fn gone_on(self, event: Event) -> Result<Record, Refusal>
+        ensures { turned result ≡ decided (state_causes (state self.entry.state) event) (gives (with_state (state_after (state self.entry.state) event) (the_record self))) }
+    {
+        let state = self.entry.state.after(event)?;
+        Ok(Record {
+            entry: Entry {
+                state,
+                ..self.entry
+            },
+        })
     }
-    if claim.draw >= entry.next {
-        return turned_away(Refusal::DrawNotHandedOut, before);
+
+    // What the record says once the held draw is given up, to be sealed or voided.
+    fn given_up(self, event: Event, draw: u64) -> Result<Entry, Refusal>
+        ensures uncounted { IfOk result Uncounted }
+        ensures given { given result ≡ decided (give_up_causes (the_record self) event draw) (gives (with_held (without draw (draws self.entry.held)) (with_state (state_after (state self.entry.state) event) (the_record self)))) }
+    {
+        let entry = self.gone_on(event)?.entry;
+        let held = entry.held.remove(draw).ok_or(Refusal::DrawNotHeld)?;
+        Ok(Entry { held, ..entry })
     }
-    match check_seal::<F, C>(cipher, entry.key, claim.draw, claim.text, claim.seal, ring) {
-        Err(refusal) => turned_away(refusal, before),
-        Ok(false) => turned_away(Refusal::SealWrong, counted),
-        Ok(true) => Checked {
-            answer: Ok(standing_of(entry.current, claim.draw)),
-            after: before,
-        },
+
+    // Opens a free grave with a key, unless the key is used.
+    pub fn open(&mut self, key: Key, used: bool) -> Result<(), Refusal>
+        ensures { TurnsBy (λ r. open_here r used) (λ _. tt) (after_open key) (the_record self.old) (told result) (the_record self.new) }
+    {
+        let entry = self.gone_on(Event::Open)?.entry;
+        if used {
+            return Err(Refusal::KeyUsed);
+        }
+        *self = Record {
+            entry: Entry { key, ..entry },
+        };
+        Ok(())
+    }
+
+    // Hands out the next draw, and gives its number.
+    pub fn draw(&mut self) -> Result<u64, Refusal>
+        ensures { TurnsBy draw_causes (λ r. r.next) after_draw (the_record self.old) (told result) (the_record self.new) }
+    {
+        let entry = self.gone_on(Event::Draw)?.entry;
+        let held = entry.held.push(entry.next).ok_or(Refusal::FourDrawsHeld)?;
+        if entry.next >= MOST_DRAWS {
+            return Err(Refusal::DrawsExhausted);
+        }
+        *self = Record {
+            entry: Entry {
+                next: entry.next + 1,
+                held,
+                ..entry
+            },
+        };
+        Ok(entry.next)
+    }
+
+    // Seals a text under a held draw. The cipher is asked only where no earlier test refuses.
+    pub fn seal<F: Field, C: Cipher>(
+        &mut self,
+        cipher: &mut C,
+        draw: u64,
+        text: &[u8],
+        ring: &mut [u64],
+    ) -> Result<u64, Refusal>
+        ensures sealed { let S = sealing F.Field.model (C.Cipher.function cipher.old) in TurnsBy (λ r. seal_causes S r draw text.now (length ring.old)) (λ r. S.seal r.key draw text.now) (after_seal draw) (the_record self.old) (told result) (the_record self.new) }
+        ensures kept { C.Cipher.function cipher.new ≡ C.Cipher.function cipher.old }
+    {
+        let entry = self.given_up(Event::Seal, draw)?;
+        let seal = seal_text::<F, C>(cipher, self.entry.key, draw, text, ring)?;
+        *self = Record {
+            entry: Entry {
+                sealed: entry.sealed + 1,
+                current: Some(draw),
+                ..entry
+            },
+        };
+        Ok(seal)
+    }
+
+    pub fn void(&mut self, draw: u64) -> Result<(), Refusal>
+        ensures { TurnsBy (λ r. void_causes r draw) (λ _. tt) (after_void draw) (the_record self.old) (told result) (the_record self.new) }
+    {
+        let entry = self.given_up(Event::Void, draw)?;
+        *self = Record {
+            entry: Entry {
+                voided: entry.voided + 1,
+                ..entry
+            },
+        };
+        Ok(())
+    }
+
+    // False seals become none, and a locked grave is open.
+    pub fn clear(&mut self) -> Result<(), Refusal>
+        ensures { TurnsBy use_causes (λ _. tt) after_clear (the_record self.old) (told result) (the_record self.new) }
+    {
+        *self = self.gone_on(Event::Clear)?;
+        Ok(())
+    }
+
+    // The held draws count as voided.
+    pub fn close(&mut self) -> Result<(), Refusal>
+        ensures { TurnsBy use_causes (λ _. tt) after_close (the_record self.old) (told result) (the_record self.new) }
+    {
+        let entry = self.gone_on(Event::Close)?.entry;
+        *self = Record {
+            entry: Entry {
+                held: Held::Zero,
+                voided: entry.voided + entry.held.count(),
+                ..entry
+            },
+        };
+        Ok(())
+    }
+
+    // The cipher is asked only where no earlier test refuses; a false seal is counted, and nothing else changes.
+    pub fn check<F: Field, C: Cipher>(
+        &mut self,
+        cipher: &mut C,
+        claim: Claim<'_>,
+        ring: &mut [u64],
+    ) -> Result<Standing, Refusal>
+        ensures answer { let S = sealing F.Field.model (C.Cipher.function cipher.old) in checked_told result ≡ decided (check_causes S (the_record self.old) (claimed claim.entry) (length ring.old)) (gives (rule.standing self.old.entry.current claim.entry.draw)) }
+        ensures after { the_record self.new ≡ after_answer (the_record self.old) (checked_told result) }
+        ensures kept { C.Cipher.function cipher.new ≡ C.Cipher.function cipher.old }
+    {
+        let counted = self.gone_on(Event::FalseSeal)?;
+        admit(claim.text, ring.len())?;
+        if claim.draw >= self.entry.next {
+            return Err(Refusal::DrawNotHandedOut);
+        }
+        let key = self.entry.key;
+        let is_true = check_seal::<F, C>(cipher, key, claim.draw, claim.text, claim.seal, ring)?;
+        if !is_true {
+            *self = counted;
+            return Err(Refusal::SealWrong);
+        }
+        Ok(self.standing_of(claim.draw))
     }
 }

@@ -11,9 +11,10 @@ decreases-loop-draw g l = vec_len l.hand
 abbrev pub invariant-loop-draw : goal.invariant-loop-draw
 invariant-loop-draw g l =
     let S = sealing g.F.Field.model (g.C.Cipher.function l.initial.book.cipher) in
-    (l.book.field ≡ l.initial.book.field)
-    × (l.book.cipher ≡ l.initial.book.cipher)
-    × (
-    all_voided S (reverse (vec_items l.hand)) (records l.book.graves.table)
-    ≡ all_voided S (reverse (vec_items l.initial.hand)) (records l.initial.book.graves.table)
-    )
+    record {
+      field : l.book.field ≡ l.initial.book.field;
+      cipher : l.book.cipher ≡ l.initial.book.cipher;
+      table :
+          all_voided S (reverse (vec_items l.hand)) (records l.book.graves.table)
+          ≡ all_voided S (reverse (vec_items l.initial.hand)) (records l.initial.book.graves.table);
+    }

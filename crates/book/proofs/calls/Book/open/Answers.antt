@@ -1,61 +1,22 @@
 use Rattle.std.proofs.Common.{◌<◌, length, refl, arith}
-use Rattle.refusal.specs.Numbers.{number_of}
-use Rattle.seal.specs.Seals.{sealing}
-use Rattle.promise.specs.History.{to_open}
-use Rattle.promise.specs.Records.{grave, after_open}
+use Rattle.std.proofs.lemmas.Result.{err_from_is_err_and}
+use Rattle.promise.specs.Records.{Record, after_open}
 use Rattle.promise.specs.Register.{open_causes}
 use Rattle.graves.specs.Entries.{records}
-use Rattle.book.proofs.Placed.{turned_beyond}
-use Rattle.book.proofs.OpenedAt.{not_free, key_used, opened}
+use Rattle.book.proofs.Placed.{by_name, turned}
 use Rattle.book.proofs.Finished.{finished}
+use Rattle.book.proofs.Nowhere.{nowhere}
 use Rattle.book.proofs.calls.Book.open.Goals as goal
 
-pub returns-then-grave-gt-LAST_GRAVE : goal.returns-then-grave-gt-LAST_GRAVE
-returns-then-grave-gt-LAST_GRAVE g c =
-    let S = sealing g.F.Field.model (g.C.Cipher.function c.args.self.now.cipher) in
-    let t = records c.args.self.now.graves.table in
-    let i = c.args.grave in
+pub returns-in_err-grave : goal.returns-in_err-grave
+returns-in_err-grave g c =
+    let p = err_from_is_err_and c.from_residual.result c.from_residual.ensures.1 in
+    rw (p.1, p.2) (nowhere _ _ c.args.grave _ refl c.in_err-grave.ensures)
+
+pub returns : goal.returns
+returns g c =
+    let rs = c.args.self.now.graves.table in
+    let there : c.from.result < length rs = grind arith in
+    let at = by_name rs c.args.grave _ _ c.in_ok-grave.ensures c.from.ensures there in
     let k = c.args.key in
-    record {
-      done = finished S S t t (to_open i k) _ refl
-          (turned_beyond t i (open_causes t (grave t i) k) tt (after_open k (grave t i)) c.if-grave-gt-LAST_GRAVE.true);
-      kept = (refl, refl);
-    }
-
-pub returns-in-Err : goal.returns-in-Err
-returns-in-Err g c =
-    let S = sealing g.F.Field.model (g.C.Cipher.function c.args.self.now.cipher) in
-    let rs = c.args.self.now.graves.table in
-    let i = c.args.grave in
-    let there : i < length rs = omega arith in
-    record {
-      done = finished S S (records rs) (records rs) (to_open i c.args.key) _ refl
-          (not_free S rs i c.index-self-grave.result there c.if-grave-gt-LAST_GRAVE.false c.args.key (number_of c.in-Err.refusal) c.in-Err.ensures);
-      kept = (refl, refl);
-    }
-
-pub returns-then-key_used : goal.returns-then-key_used
-returns-then-key_used g c =
-    let S = sealing g.F.Field.model (g.C.Cipher.function c.args.self.now.cipher) in
-    let rs = c.args.self.now.graves.table in
-    let i = c.args.grave in
-    let there : i < length rs = omega arith in
-    record {
-      done = finished S S (records rs) (records rs) (to_open i c.args.key) _ refl
-          (key_used S rs i c.index-self-grave.result there c.if-grave-gt-LAST_GRAVE.false c.args.key c.in-Ok.after c.in-Ok.ensures
-          c.if-key_used.ensures);
-      kept = (refl, refl);
-    }
-
-pub returns-else-key_used : goal.returns-else-key_used
-returns-else-key_used g c =
-    let S = sealing g.F.Field.model (g.C.Cipher.function c.args.self.now.cipher) in
-    let rs = c.args.self.now.graves.table in
-    let i = c.args.grave in
-    let there : i < length rs = omega arith in
-    record {
-      done = finished S S (records rs) _ (to_open i c.args.key) _ refl
-          (opened S rs i c.index-self-grave.result there c.if-grave-gt-LAST_GRAVE.false c.args.key c.in-Ok.after c.in-Ok.ensures
-          c.if-key_used.ensures);
-      kept = (refl, refl);
-    }
+    finished _ _ _ _ refl refl refl (turned at _ (λ (q : Record). open_causes (records rs) q k) (λ _. tt) (after_open k) _ _ (rw c.key_used-used.ensures at c.open.ensures))

@@ -1,63 +1,31 @@
-use Rattle.std.proofs.Common.{◌<◌, length, refl, ap, arith, rules}
-use Rattle.refusal.specs.Numbers.{number_of}
+use Rattle.std.proofs.Common.{◌<◌, length, refl, ap, arith}
 use Rattle.seal.specs.Seals.{sealing}
-use Rattle.promise.specs.History.{to_seal}
-use Rattle.graves.specs.Entries.{records}
-use Rattle.book.proofs.SealedAt.{not_held, text_refused, sealed_so}
+use Rattle.promise.specs.Records.{Record, after_seal}
+use Rattle.promise.specs.Register.{seal_causes}
+use Rattle.book.proofs.Placed.{by_draw, turned}
 use Rattle.book.proofs.Finished.{finished}
 use Rattle.book.proofs.calls.Book.seal.Goals as goal
 
-pub returns-in-Err : goal.returns-in-Err
-returns-in-Err g c =
-    let S = sealing g.F.Field.model (g.C.Cipher.function c.args.self.now.cipher) in
-    let rs = c.args.self.now.graves.table in
-    let i = c.args.draw.grave in
-    let n = c.args.draw.number in
-    let text = c.args.text.now in
-    let places = length c.args.ring.now in
-    let there : i < length rs = omega arith in
-    record {
-      done = finished S S (records rs) _ (to_seal i n text places) _ refl
-          (not_held S rs i c.index-self-draw.result there n text places (number_of c.in-Err.refusal) c.in-Err.ensures);
-      back = refl;
-      zeros = search rules;
-      kept = refl;
-    }
-
-pub returns-in-Err-seal_text : goal.returns-in-Err-seal_text
-returns-in-Err-seal_text g c =
+pub returns-in-Err-clause-done : goal.returns-in-Err-clause-done
+returns-in-Err-clause-done g c =
     let m = g.F.Field.model in
     let S = sealing m (g.C.Cipher.function c.args.self.now.cipher) in
     let rs = c.args.self.now.graves.table in
-    let i = c.args.draw.grave in
     let n = c.args.draw.number in
     let text = c.args.text.now in
-    let places = length c.args.ring.now in
-    let there : i < length rs = omega arith in
-    record {
-      done = finished S _ (records rs) _ (to_seal i n text places) _ (ap (sealing m) c.in-Err-seal_text.ensures.kept)
-          (text_refused S rs i c.index-self-draw.result there n text places c.in-Ok.spent c.in-Ok.ensures
-          (number_of c.in-Err-seal_text.refusal) c.in-Err-seal_text.ensures.answer);
-      back = refl;
-      zeros = search rules;
-      kept = refl;
-    }
+    let there : c.from.result < length rs = grind arith in
+    finished _ _ _ _ refl tt (ap (sealing m) c.in-Err.ensures.kept)
+    (turned (by_draw rs _ _ c.from.ensures there) _ (λ (q : Record). seal_causes S q n text (length c.args.ring.now))
+    (λ (q : Record). S.seal q.key n text) (after_seal n) _ _ c.in-Err.ensures.sealed)
 
-pub returns : goal.returns
-returns g c =
+pub returns-clause-done : goal.returns-clause-done
+returns-clause-done g c =
     let m = g.F.Field.model in
     let S = sealing m (g.C.Cipher.function c.args.self.now.cipher) in
     let rs = c.args.self.now.graves.table in
-    let i = c.args.draw.grave in
     let n = c.args.draw.number in
     let text = c.args.text.now in
-    let places = length c.args.ring.now in
-    let there : i < length rs = omega arith in
-    record {
-      done = finished S _ (records rs) _ (to_seal i n text places) _ (ap (sealing m) c.in-Ok-seal_text.ensures.kept)
-          (sealed_so S rs i c.index-self-draw.result there n text places c.in-Ok.spent c.in-Ok.ensures
-          c.in-Ok-seal_text.seal c.in-Ok-seal_text.ensures.answer);
-      back = tt;
-      zeros = search rules;
-      kept = refl;
-    }
+    let there : c.from.result < length rs = grind arith in
+    finished _ _ _ _ refl tt (ap (sealing m) c.in-Ok.ensures.kept)
+    (turned (by_draw rs _ _ c.from.ensures there) _ (λ (q : Record). seal_causes S q n text (length c.args.ring.now))
+    (λ (q : Record). S.seal q.key n text) (after_seal n) _ _ c.in-Ok.ensures.sealed)

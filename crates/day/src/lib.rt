@@ -11,6 +11,7 @@ use script::{Call, CipherName, Fault, FieldName, Line, MOST_PLACES, Places, read
 use std::alloc::{AllocError, Global};
 
 mod answer;
+mod call_error;
 mod calls;
 mod office;
 mod shown;

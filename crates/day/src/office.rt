@@ -1,7 +1,8 @@
 // The desk of a book, over the field and the cipher that its line named.
 ghost use Rattle.std.specs.Prelude.{◌≡◌, length, MatchResult};
 ghost use Rattle.script.specs.Lines.{asked};
-ghost use Rattle.day.specs.Offices.{desk_of, new_desk, Made};
+ghost use Rattle.day.specs.Calls.{Made};
+ghost use Rattle.day.specs.Offices.{desk_of, new_desk};
 
 use crate::answer::Answer;
 use crate::calls::run_call;

@@ -2,29 +2,26 @@
 use Rattle.std.specs.Prelude.{◌≡◌, ℕ, Some, None, Ok, Err, Option, Result}
 use Rattle.std.specs.declared.alloc.AllocError.{AllocError}
 use Rattle.std.specs.Option.{option_map}
-use Rattle.ciphers.specs.declared.CipherName.{CipherName}
-use Rattle.fields.specs.declared.FieldName.{FieldName}
-use Rattle.desk.specs.Desks.{State}
 use Rattle.script.specs.declared.reason.Reason.{Reason}
 use Rattle.script.specs.Lines.{Ask, Said, nothing, a_book, a_ring, a_call}
 use Rattle.day.specs.declared.Day.{Day}
 use Rattle.day.specs.declared.answer.Answer.{Answer}
 use Rattle.day.specs.declared.answer.Answer.TheVariants as is
-use Rattle.day.specs.Offices.{desk_of, new_desk}
+use Rattle.day.specs.Offices.{DeskState, desk_of, new_desk}
 use Rattle.day.specs.Calls.{Made}
 
 -- the desk of the current book, if there is one, and the places that calls are lent
 pub record Now : Type 0 where
-  pub desk : Option (State FieldName CipherName)
+  pub desk : Option DeskState
   pub places : ℕ
 
 abbrev pub now_at : Day → Now
 now_at d = record { desk = option_map desk_of d.office; places = d.places.count }
 
 -- a call at the current desk
-abbrev pub MadeAt : Option (State FieldName CipherName) → Ask → ℕ → Answer → Option (State FieldName CipherName) → Type 0
+abbrev pub MadeAt : Option DeskState → Ask → ℕ → Answer → Option DeskState → Type 0
 MadeAt None q p a o = (a ≡ is.NoBook) × (o ≡ None)
-MadeAt (Some d) q p a o = (d' : State FieldName CipherName) × (o ≡ Some d') × Made d q p a d'
+MadeAt (Some d) q p a o = (d' : DeskState) × (o ≡ Some d') × Made d q p a d'
 
 -- that, and the places stay; without memory nothing changes
 abbrev pub Ran : Now → Ask → Result Answer AllocError → Now → Type 0

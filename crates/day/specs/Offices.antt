@@ -13,19 +13,22 @@ use Rattle.desk.specs.Desks.{State, state}
 use Rattle.day.specs.declared.office.Office.{Office}
 use Rattle.day.specs.declared.office.Office.TheVariants as over
 
--- a desk's state, its field by name
+-- what is there of an office: a desk's state, its field and its cipher by name
+abbrev pub DeskState : Type 0
+DeskState = State FieldName CipherName
+
 abbrev pub named : {F C : Type 0} → FieldName → State F C → State FieldName C
 named f d = record {
   book = record { field = f; cipher = d.book.cipher; sealing = d.book.sealing; table = d.book.table };
   hand = d.hand;
 }
 
-abbrev pub desk_of : Office → State FieldName CipherName
+abbrev pub desk_of : Office → DeskState
 desk_of (over.M61 d) = named M61 (state m61 function_of d)
 desk_of (over.B63 d) = named B63 (state b63 function_of d)
 
 -- a new book, and no draw in hand
-abbrev pub new_desk : FieldName → CipherName → State FieldName CipherName
+abbrev pub new_desk : FieldName → CipherName → DeskState
 new_desk f c = record {
   book = record { field = f; cipher = c; sealing = sealing (model_of f) (function_of c); table = new };
   hand = [];

@@ -12,6 +12,7 @@ use m61::M61;
 use script::{Call, CipherName, FieldName};
 use std::alloc::{AllocError, Global};
 
+// A field is a type, so there is a desk for each; a cipher is named by a value.
 pub enum Office {
     M61(Desk<M61, CipherName>),
     B63(Desk<B63, CipherName>),

@@ -1,10 +1,8 @@
 -- A power of z times an element. Assumes nothing.
-use mathlib.Core.Path.{◌≡◌, refl, sym, ap, ap₂, ◌∙◌}
-use Prim.Native.Nat.{ℕ, zero, suc, ◌+◌, ◌-◌, ◌*◌, ◌/◌, ◌%◌, ◌^◌, ◌≤◌, ◌<◌}
-use native.Mathlib.Nat.{zero-add, suc-add, mul-one, mul_assoc, mod-lt, pow-suc, pow-succ'}
-use native.Mathlib.Omega.{arith}
-use lib.Bits.{bit_xor, xor_shifted}
-use lib.Pow.{pow_pos, pow_mono, split, shr_lt}
+use Rattle.std.proofs.Common.{◌≡◌, refl, sym, ap, ap₂, ◌∙◌, ℕ, zero, suc, ◌+◌, ◌-◌, ◌*◌, ◌/◌, ◌%◌, ◌^◌, ◌≤◌, ◌<◌, zero-add, suc-add, mul-one, mul_assoc, mod-lt, pow-suc, arith, bit_xor, pow_pos, pow_mono, shr_lt}
+use Rattle.std.proofs.Math.Nat.{pow-succ'}
+use Rattle.std.specs.Int.Bits.{xor_shifted}
+use Rattle.std.proofs.Math.Pow.{split}
 use Rattle.b63.specs.Binary.{by_z, by_z_power}
 use Rattle.b63.specs.Xor.{Additive, in_order}
 use Rattle.b63.specs.Rows.{past_factor, rows_up}

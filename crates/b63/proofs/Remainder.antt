@@ -1,8 +1,5 @@
 -- The product of two elements is what the modulus leaves of the product of the polynomials. Assumes nothing.
-use mathlib.Core.Path.{◌≡◌, refl, sym, ap, ap₂, ◌∙◌}
-use Prim.Native.Nat.{ℕ, zero, suc, ◌+◌, ◌*◌, ◌/◌, ◌%◌, ◌^◌, ◌<◌}
-use native.Mathlib.Omega.{arith}
-use lib.Bits.{bit_xor}
+use Rattle.std.proofs.Common.{◌≡◌, refl, sym, ap, ap₂, ◌∙◌, ℕ, zero, suc, ◌+◌, ◌*◌, ◌/◌, ◌%◌, ◌^◌, ◌<◌, arith, bit_xor}
 use Rattle.b63.specs.Binary.{by_z, rows, times63, modulus, Remainder}
 use Rattle.b63.specs.Xor.{in_order, double_plus}
 use Rattle.b63.specs.Rows.{rows_suc}

@@ -1,10 +1,8 @@
 -- The rows of some coefficients, and of those above them. Assumes nothing.
-use mathlib.Core.Path.{◌≡◌, sym, ap, ap₂, ◌∙◌}
-use Prim.Native.Nat.{ℕ, zero, suc, ◌+◌, ◌*◌, ◌/◌, ◌%◌, ◌^◌, ◌<◌}
-use native.Mathlib.Nat.{zero-add, suc-add, zero-mul, div-one, div-eq_of_lt}
-use native.Mathlib.Numerals.{add-one, one-add}
-use lib.Bits.{bit_xor, xor_zero_r, xor_assoc, xor_comm}
-use lib.Pow.{shr-shr}
+use Rattle.std.proofs.Common.{◌≡◌, sym, ap, ap₂, ◌∙◌, ℕ, zero, suc, ◌+◌, ◌*◌, ◌/◌, ◌%◌, ◌^◌, ◌<◌, zero-add, suc-add, zero-mul, div-one, add-one, one-add, bit_xor, shr-shr}
+use Rattle.std.proofs.lemmas.Nat.{xor_comm}
+use Rattle.std.proofs.Math.Nat.{div-eq_of_lt}
+use Rattle.std.specs.Int.Bits.{xor_zero_r, xor_assoc}
 use Rattle.b63.specs.Binary.{by_z, by_z_power, rows}
 use Rattle.b63.specs.Rows.{past_factor}
 use Rattle.b63.specs.ByZ.{by_z_plus}

@@ -1,8 +1,7 @@
 -- A product by rows, where what takes a number times z keeps sums. Assumes nothing.
 use Rattle.std.specs.Prelude.{◌≡◌}
 use Rattle.std.proofs.Math.Path.{refl, ap, ap₂}
-use Rattle.std.proofs.Common.{sym, ◌∙◌}
-use Prim.Native.Nat.{ℕ, zero, suc, ◌*◌, ◌/◌, ◌%◌}
+use Rattle.std.proofs.Common.{sym, ◌∙◌, ℕ, zero, suc, ◌*◌, ◌/◌, ◌%◌}
 use Rattle.std.specs.Int.Bits.{bit_xor}
 use Rattle.b63.specs.Binary.{rows}
 use Rattle.b63.specs.Xor.{Additive, in_order, keeps_zero}

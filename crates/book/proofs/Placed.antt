@@ -47,6 +47,10 @@ by_name rs g k i found same there = record {
 pub by_draw : (rs : List Record) (g i : ℕ) → i ≡ g → i < length rs → At rs g i []
 by_draw rs g i is there = record { is = is; there = there; none = tt }
 
+-- the rule of a check's answer at a record
+abbrev heard : Sealing → Sheet → ℕ → rule.Record → Outcome Standing
+heard S s p r = decided (check_causes S r s p) (gives (standing r.current s.draw))
+
 module _ {rs : List Record} {g i : ℕ} {first : List Cause} (at : At rs g i first) (d : Record) where
   -- the grave's record, as the code and as the rules find it
   place : the_record (get_or rs i d) ≡ grave (records rs) g
@@ -57,8 +61,9 @@ module _ {rs : List Record} {g i : ℕ} {first : List Cause} (at : At rs g i fir
 
   pub turned : {A : Type 0} (cs : rule.Record → List Cause) (v : rule.Record → A) (f : rule.Record → rule.Record)
       (o : Outcome A) (next : Record) → TurnsBy cs v f (the_record (get_or rs i d)) o (the_record next)
-      → (o ≡ decided first (decided (cs (grave (records rs) g)) (gives (v (grave (records rs) g)))))
-      × (records (set rs i next) ≡ written (records rs) g (decided first (decided (cs (grave (records rs) g)) (gives (f (grave (records rs) g))))))
+      → let q = grave (records rs) g in
+      (o ≡ decided first (decided (cs q) (gives (v q))))
+      × (records (set rs i next) ≡ written (records rs) g (decided first (decided (cs q) (gives (f q)))))
   turned cs v f o next by =
       let t = records rs in
       let q = grave t g in
@@ -70,15 +75,14 @@ module _ {rs : List Record} {g i : ℕ} {first : List Cause} (at : At rs g i fir
       )
 
   pub checked : (S : Sealing) (s : Sheet) (p : ℕ) (o : Outcome Standing) (next : Record)
-      → o ≡ decided (check_causes S (the_record (get_or rs i d)) s p) (gives (standing (the_record (get_or rs i d)).current s.draw))
-      → the_record next ≡ after_answer (the_record (get_or rs i d)) o
-      → (o ≡ decided first (decided (check_causes S (grave (records rs) g) s p) (gives (standing (grave (records rs) g).current s.draw))))
-      × (records (set rs i next) ≡ after_check (records rs) g (decided first (decided (check_causes S (grave (records rs) g) s p) (gives (standing (grave (records rs) g).current s.draw)))))
-  checked S s p o next heard leaves =
+      → o ≡ heard S s p (the_record (get_or rs i d)) → the_record next ≡ after_answer (the_record (get_or rs i d)) o
+      → let q = grave (records rs) g in
+      (o ≡ decided first (heard S s p q)) × (records (set rs i next) ≡ after_check (records rs) g (decided first (heard S s p q)))
+  checked S s p o next answers leaves =
       let t = records rs in
       let q = grave t g in
-      let so = λ (r : rule.Record). decided (check_causes S r s p) (gives (standing r.current s.draw)) in
-      let answered : o ≡ decided first (so q) = heard ∙ ap so place ∙ undecided first (so q) at.none in (
+      let answered : o ≡ decided first (heard S s p q) =
+      answers ∙ ap (heard S s p) place ∙ undecided first (heard S s p q) at.none in (
         answered,
         put next (after_answer q o) (leaves ∙ ap (λ (r : rule.Record). after_answer r o) place)
             ∙ checked_at t g o ∙ ap (after_check t g) answered,

@@ -13,8 +13,8 @@ ghost use Rattle.book.specs.Calls.{state, Done, drawn_told, sealed_told, place_o
 use graves::entry::{Entry, State};
 use graves::held::Held;
 use graves::record::Record;
-use graves::turns::{Claim, Standing};
-use seal::{Cipher, Field, Key, Refusal, Wipe, seal_text};
+use graves::turns::Standing;
+use seal::{Cipher, Claim, Field, Key, Refusal, Wipe, seal_text};
 
 // A draw: the right to seal one sheet at a grave. Only `Book::draw` makes one, and only `Book::seal` and `Book::void`
 // take one; it cannot be let go, copied or made up.

@@ -5,4 +5,5 @@ mod calls;
 
 pub use calls::{Account, Book, Draw, Returned};
 pub use graves::entry::State;
-pub use graves::turns::{Claim, Standing};
+pub use graves::turns::Standing;
+pub use seal::Claim;

@@ -1,6 +1,6 @@
 -- A text cut at a chunk: the blocks before it, those in it and those behind it. Assumes nothing.
 use Rattle.std.proofs.Common.{◌≡◌, ℕ, suc, ◌+◌, ◌-◌, ◌*◌, ◌<◌, ◌≤◌, min, ◌⊎◌, List, length, sym, ap, ◌∙◌, inl, inr, arith}
-use native.Mathlib.Decide.{dec_le}
+use Rattle.std.proofs.Math.Decide.{dec_le}
 use Rattle.hash.specs.Texts.{block_bytes, chunk_blocks, groups, block_count, chunk_count, chunk_of}
 
 -- chunk c has i of the text's blocks, and l blocks are behind it

@@ -1,7 +1,7 @@
 -- The three cases joined, of two different texts of which the first has no fewer chunks. Assumes nothing.
 use Rattle.std.proofs.Common.{◌≡◌, ℕ, suc, ◌+◌, ◌*◌, ◌^◌, ◌≤◌, max, ◌≢◌, List, length, ap, ◌∙◌, mul-le-mul_right, zero-mul, mul-one, arith}
-use native.Mathlib.Nat.{pow-zero}
-use native.Mathlib.Decide.{ℕ_discrete}
+use Rattle.std.proofs.Math.Nat.{pow-zero}
+use Rattle.std.proofs.Math.Decide.{ℕ_discrete}
 use Rattle.std.specs.List.{AllByRecursion}
 use Rattle.field.specs.Model.{Model}
 use Rattle.field.specs.Laws.{Element, FieldLaws}

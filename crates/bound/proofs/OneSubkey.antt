@@ -1,6 +1,6 @@
 -- The hash as a polynomial in the subkey of one chunk, and what its coefficients tell. Assumes nothing.
 use Rattle.std.proofs.Common.{◌≡◌, ℕ, zero, suc, ◌+◌, ◌<◌, ◌≢◌, List, [], ◌∷◌, length, sym, refl, ap, ◌∙◌, subst, inl, inr, arith}
-use native.Mathlib.Decide.{ℕ_discrete}
+use Rattle.std.proofs.Math.Decide.{ℕ_discrete}
 use Rattle.bound.proofs.Domain.{Domain, plus_left_comm, times_left_comm, zero_plus, times_zero}
 use Rattle.bound.proofs.Domain.{plus_cancel, minus_zero, times_cancel}
 use Rattle.bound.proofs.Roots.{eval, Zeros}

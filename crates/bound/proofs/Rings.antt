@@ -1,6 +1,6 @@
--- AllByRecursion rings of c subkeys that are taken from a list of keys, and sums over them. Assumes nothing.
+-- All rings of c subkeys that are taken from a list of keys, and sums over them. Assumes nothing.
 use Rattle.std.proofs.Common.{◌≡◌, ℕ, zero, suc, ◌*◌, ◌^◌, List, [], ◌∷◌, map, length, sym, refl, ap, ◌∙◌, inl, inr, add-zero, mul_assoc, one-mul, pow-suc, mul-one, arith}
-use native.Mathlib.Nat.{pow-zero}
+use Rattle.std.proofs.Math.Nat.{pow-zero}
 use Rattle.std.specs.List.{flat_map, AllByRecursion}
 use Rattle.bound.specs.Counting.{Distinct}
 use Rattle.bound.proofs.Each.{all_joined}

@@ -1,6 +1,6 @@
 -- Sums over a list: added, multiplied, compared, and put in another order. Assumes nothing.
 use Rattle.std.proofs.Common.{◌≡◌, ℕ, ◌+◌, ◌*◌, ◌≤◌, Bool, true, false, cond, List, [], ◌∷◌, ◌++◌, map, length, filter, sym, refl, ap, ◌∙◌, zero-le, le_refl, add-mul, mul-zero, zero-mul, arith}
-use mathlib.Core.Path.{fun_ext}
+use Rattle.std.proofs.Math.Path.{fun_ext}
 use Rattle.std.specs.List.{flat_map, AllByRecursion}
 
 abbrev pub sum : {X : Type 0} → (X → ℕ) → List X → ℕ

@@ -1,6 +1,6 @@
 -- The collision bound, over any field. Assumes nothing.
 use Rattle.std.proofs.Common.{◌≡◌, ℕ, ◌+◌, ◌-◌, ◌*◌, ◌^◌, ◌<◌, ◌≤◌, Bool, true, false, cond, eqb, ◌≢◌, List, refl, ap, ◌∙◌, subst, mul-le-mul_right, arith}
-use native.Mathlib.Nat.{pow-zero}
+use Rattle.std.proofs.Math.Nat.{pow-zero}
 use Rattle.std.specs.List.{range_with_len, AllByRecursion}
 use Rattle.std.proofs.lemmas.List.FromFn.{length-range_with_len}
 use Rattle.std.proofs.ByRecursion.{All-weaker}

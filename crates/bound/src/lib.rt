@@ -7,6 +7,7 @@ ghost use Rattle.bound.specs.Bound.{OnlyZeroMakesZero, chunks, share, ShareAtMos
 use field::Field;
 
 // In how many of `F::order()` rings at most the two texts have the same hash, if they differ.
+#[tactic(auto, using(crate::proofs::Theorem::share_at_most))]
 pub fn collisions<F: Field>(a: &[u8], b: &[u8]) -> u64
     ensures value { result ≡ share (chunks a.now b.now) }
     ensures meaning { ShareAtMost F.Field.model result a.now b.now }

@@ -1,4 +1,4 @@
--- What a slice pattern's bytes and rest are, in the words of `front`. Assumes nothing.
+-- What a number taken off the front, or a missing one, says of the bytes. Assumes nothing.
 use Rattle.std.proofs.Common.{◌≡◌, ℕ, suc, ◌-◌, ◌<◌, ◌≤◌, List, length, take, drop, Some, None, ap, ◌∙◌, inl, inr, arith}
 use Rattle.std.proofs.lemmas.List.{take_rest}
 use Rattle.std.proofs.lemmas.Bool.{le-ltb}
@@ -6,13 +6,6 @@ use Rattle.std.proofs.lemmas.Bool.Decides.{nat_tests, leb_tells}
 use Rattle.byte_rows.specs.Numbers.{number}
 use Rattle.byte_rows.specs.Fronts.{front}
 use Rattle.byte_rows.proofs.Places.{by_place, number_by_place}
-
-pub front_is : (n : ℕ) (bytes : List ℕ) (x : ℕ) → n ≤ length bytes → x ≡ by_place n 0 bytes
-    → Some (x, take (length bytes - n) (drop n bytes)) ≡ front n bytes
-front_is n bytes x enough is =
-    let there = le-ltb (length bytes) n enough in
-    let value : x ≡ number (take n bytes) = is ∙ number_by_place n 0 bytes (omega arith) in
-    simp (there, take_rest bytes n, value)
 
 -- what a number that is missing, or there, says of the bytes
 pub front_none : (n : ℕ) (bytes : List ℕ) → None ≡ front n bytes → length bytes < n

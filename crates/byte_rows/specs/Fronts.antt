@@ -7,7 +7,7 @@ use Rattle.byte_rows.specs.Numbers.{number}
 abbrev pub front : ℕ → List ℕ → Option (ℕ × List ℕ)
 front n bytes = cond (nat_lt (length bytes) n) None (Some (number (take n bytes), drop n bytes))
 
--- what the code answers, its reference read
-abbrev pub read : Option (ℕ × Bor (List ℕ)) → Option (ℕ × List ℕ)
-read None = None
-read (Some x) = Some (x.0, x.1.now)
+-- what the code answers, its number taken as a whole one and its reference read
+abbrev pub read : {X : Type 0} → (X → ℕ) → Option (X × Bor (List ℕ)) → Option (ℕ × List ℕ)
+read value None = None
+read value (Some x) = Some (value x.0, x.1.now)

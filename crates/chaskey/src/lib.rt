@@ -2,13 +2,12 @@
 // index depends on the key or the block.
 #![tactic(auto)]
 
-ghost use Rattle.std.specs.Prelude.{◌≡◌, ◌++◌};
-ghost use Rattle.cipher.specs.Bytes.{highest_first, number_at, pair_bytes};
-ghost use Rattle.cipher.specs.Pairs.{block_of};
-ghost use Rattle.chaskey.specs.Order.{word_at, lowest_first, words_of, bytes_of};
+ghost use Rattle.std.specs.Prelude.{◌≡◌};
+ghost use Rattle.chaskey.specs.Order.{words_of, bytes_of};
 ghost use Rattle.chaskey.specs.Chaskey.{keyed, round_of, permuted, chaskey};
 
 use cipher::{Block, Cipher, Key};
+use std::ops::BitXor;
 
 // The state, or the key.
 #[derive(Clone, Copy, PartialEq, Eq, Debug)]
@@ -19,28 +18,40 @@ pub struct Words {
     pub v3: u32,
 }
 
-impl Words {
-    // The words of 16 bytes, each of four, the lowest first; the bytes are those of two numbers, the highest first.
-    fn read(first: u64, second: u64) -> Words
-        ensures { result ≡ words_of (pair_bytes first second) }
-    {
-        let (v0, v1) = split(first);
-        let (v2, v3) = split(second);
-        Words { v0, v1, v2, v3 }
-    }
+// The words of 16 bytes, each of four, the lowest first.
+impl From<[u8; 16]> for Words {
+    ghost from_gives = { λ bytes words. words ≡ words_of bytes };
 
-    fn block(self) -> Block
-        ensures { result ≡ block_of (bytes_of self) }
-    {
-        Block {
-            first: joined(self.v0, self.v1),
-            second: joined(self.v2, self.v3),
+    fn from(bytes: [u8; 16]) -> Words {
+        Words {
+            v0: u32::from_le_bytes([bytes[0], bytes[1], bytes[2], bytes[3]]),
+            v1: u32::from_le_bytes([bytes[4], bytes[5], bytes[6], bytes[7]]),
+            v2: u32::from_le_bytes([bytes[8], bytes[9], bytes[10], bytes[11]]),
+            v3: u32::from_le_bytes([bytes[12], bytes[13], bytes[14], bytes[15]]),
         }
     }
+}
 
-    fn xor(self, other: Words) -> Words
-        ensures { result ≡ keyed other self }
-    {
+impl From<Words> for [u8; 16] {
+    ghost from_gives = { λ words bytes. bytes ≡ bytes_of words };
+
+    fn from(words: Words) -> [u8; 16] {
+        let [b0, b1, b2, b3] = words.v0.to_le_bytes();
+        let [b4, b5, b6, b7] = words.v1.to_le_bytes();
+        let [b8, b9, b10, b11] = words.v2.to_le_bytes();
+        let [b12, b13, b14, b15] = words.v3.to_le_bytes();
+        [
+            b0, b1, b2, b3, b4, b5, b6, b7, b8, b9, b10, b11, b12, b13, b14, b15,
+        ]
+    }
+}
+
+impl BitXor for Words {
+    type Output = Words;
+
+    ghost bitxor_gives = { λ v k result. result ≡ keyed k v };
+
+    fn bitxor(self, other: Words) -> Words {
         Words {
             v0: self.v0 ^ other.v0,
             v1: self.v1 ^ other.v1,
@@ -50,24 +61,7 @@ impl Words {
     }
 }
 
-fn split(x: u64) -> (u32, u32)
-    ensures { result ≡ (word_at 0 (highest_first 8 x), word_at 4 (highest_first 8 x)) }
-{
-    let [b0, b1, b2, b3, b4, b5, b6, b7] = x.to_be_bytes();
-    (
-        u32::from_le_bytes([b0, b1, b2, b3]),
-        u32::from_le_bytes([b4, b5, b6, b7]),
-    )
-}
-
-fn joined(v: u32, w: u32) -> u64
-    ensures { result ≡ number_at 8 0 (lowest_first v ++ lowest_first w) }
-{
-    let [b0, b1, b2, b3] = v.to_le_bytes();
-    let [b4, b5, b6, b7] = w.to_le_bytes();
-    u64::from_be_bytes([b0, b1, b2, b3, b4, b5, b6, b7])
-}
-
+#[tactic(auto, unfolding(crate::specs::Chaskey::round_of))]
 fn round(v: Words) -> Words
     ensures { result ≡ round_of v }
 {
@@ -97,6 +91,7 @@ fn round(v: Words) -> Words
 const ROUNDS: u32 = 12;
 
 // The twelve rounds alone, without a key.
+#[tactic(auto, unfolding(crate::specs::Chaskey::permuted))]
 pub fn permute(words: Words) -> Words
     ensures { result ≡ permuted words }
 {
@@ -113,9 +108,11 @@ pub struct Chaskey;
 impl Cipher for Chaskey {
     ghost function = { λ _. chaskey };
 
+    #[tactic(auto, unfolding(crate::specs::Chaskey::chaskey))]
     fn encipher(&mut self, key: Key, block: Block) -> Block {
-        let k = Words::read(key.first, key.second);
-        let v = Words::read(block.first, block.second);
-        permute(v.xor(k)).xor(k).block()
+        let k = Words::from(key.to_bytes());
+        let v = Words::from(block.to_bytes());
+        let enciphered = permute(v ^ k) ^ k;
+        Block::from_bytes(enciphered.into())
     }
 }

@@ -7,6 +7,8 @@ ghost use Rattle.cipher.specs.declared.Key.{Key};
 ghost use Rattle.cipher.specs.Bytes.{pair_bytes, number_at};
 ghost use Rattle.cipher.specs.Pairs.{key_bytes, key_of, block_bytes, block_of};
 
+// Key and Block stay two types with the same fields and methods, so that a key is never taken for a block.
+
 #[derive(Clone, Copy, PartialEq, Eq, Debug)]
 pub struct Key {
     pub first: u64,
@@ -27,6 +29,8 @@ pub trait Cipher {
         ensures answer { result ≡ function self.old key block }
         ensures kept { function self.new ≡ function self.old };
 }
+
+// These stay methods and no From impls: by its name a call says, as u64's own to_be_bytes does, that bytes are meant.
 
 impl Key {
     pub fn to_bytes(self) -> [u8; 16]

@@ -1,10 +1,9 @@
 // A client of the book: it draws, seals, and voids the draw that comes back.
 #![tactic(auto)]
 
-ghost use Rattle.std.specs.Prelude.{◌≡◌, length, replicate, IfOk, IfErr, OnOk};
+ghost use Rattle.std.specs.Prelude.{◌≡◌, length, replicate, MatchResult, OnOk};
 ghost use Rattle.refusal.specs.Numbers.{number_of};
-ghost use Rattle.seal.specs.Seals.{sealing};
-ghost use Rattle.graves.specs.Entries.{records};
+ghost use Rattle.book.specs.Calls.{state};
 ghost use Rattle.clerk.specs.Issues.{Issues, GivesUp};
 
 use book::{Book, Returned};
@@ -25,10 +24,8 @@ pub fn issue<F: Field, C: Cipher>(
     text: &[u8],
     ring: &mut [u64],
 ) -> Result<Issued, Refusal>
-    ensures issued { IfOk result (λ i. Issues (sealing F.Field.model (C.Cipher.function book.old.cipher)) (records book.old.graves.table) grave (record { draw = i.draw; text = text.now; seal = i.seal }) (sealing F.Field.model (C.Cipher.function book.new.cipher)) (records book.new.graves.table)) }
-    ensures refused { IfErr result (λ w. GivesUp (sealing F.Field.model (C.Cipher.function book.old.cipher)) (records book.old.graves.table) grave (number_of w) (sealing F.Field.model (C.Cipher.function book.new.cipher)) (records book.new.graves.table)) }
+    ensures issued { MatchResult result (λ i. Issues (state F.Field.model C.Cipher.function book.old) grave (record { draw = i.draw; text = text.now; seal = i.seal }) (state F.Field.model C.Cipher.function book.new)) (λ w. GivesUp (state F.Field.model C.Cipher.function book.old) grave (number_of w) (state F.Field.model C.Cipher.function book.new)) }
     ensures zeros { OnOk result (ring.new ≡ replicate (length ring.old) 0) }
-    ensures kept { book.new.field ≡ book.old.field }
 {
     let draw = book.draw(grave)?;
     let number = draw.number();

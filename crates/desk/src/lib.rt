@@ -34,8 +34,8 @@ fn take(hand: &mut Vec<Draw>, grave: u16, number: u64) -> Option<Draw>
     ensures taken { Taken grave number hand.old.items result hand.new.items }
     ensures room { MatchOption result (hand.new ≡ hand.old) (λ _. vec_len hand.new < vec_capacity hand.new) }
 {
-    let place = hand.iter().position(|draw| u16::from(draw.grave()) == grave
-        && draw.number() == number)?;
+    let is_it = |draw: &Draw| u16::from(draw.grave()) == grave && draw.number() == number;
+    let place = hand.iter().position(is_it)?;
     Some(hand.remove(place))
 }
 

@@ -52,6 +52,7 @@ impl FromStr for FieldName {
     }
 }
 
+// One generic function with an arm for each field: a field is a type, so its name cannot be given as a parameter.
 pub fn hash_over(field: FieldName, ring: &[u64], text: &[u8]) -> Result<u64, Refusal>
     ensures { told result ≡ hash_outcome (model_of field) ring.now text.now }
 {

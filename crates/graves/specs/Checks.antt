@@ -6,7 +6,7 @@ use Rattle.refusal.specs.Outcomes.{Outcome, gives, refuses}
 use Rattle.promise.specs.History.{Sheet}
 use Rattle.promise.specs.History as heard
 use Rattle.promise.specs.Records.{Record, after_false_seal}
-use Rattle.graves.specs.declared.turns.Claim.{Claim}
+use Rattle.seal.specs.declared.Claim.{Claim}
 use Rattle.graves.specs.declared.turns.Standing.{Standing}
 use Rattle.graves.specs.Entries.{standing_told}
 

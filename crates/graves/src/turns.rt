@@ -17,7 +17,7 @@ ghost use Rattle.graves.specs.Checks.{claimed, checked_told, after_answer};
 use crate::entry::{Entry, Event, State};
 use crate::held::Held;
 use crate::record::Record;
-use seal::{Cipher, Field, Key, Refusal, admit, check_seal, seal_text};
+use seal::{Cipher, Claim, Field, Key, Refusal, admit, check_seal, seal_text};
 
 // How many draws a grave hands out in all.
 const MOST_DRAWS: u64 = 1_000_000;
@@ -27,14 +27,6 @@ const MOST_DRAWS: u64 = 1_000_000;
 pub enum Standing {
     Current,
     Superseded,
-}
-
-// A sheet's parts, as they are given to a check.
-#[derive(Clone, Copy)]
-pub struct Claim<'a> {
-    pub draw: u64,
-    pub text: &'a [u8],
-    pub seal: u64,
 }
 
 impl Record {
@@ -57,7 +49,7 @@ impl Record {
     }
 
     // The state goes on, and nothing else changes.
-    fn gone_on(self, event: Event) -> Result<Record, Refusal>
+    pub fn gone_on(self, event: Event) -> Result<Record, Refusal>
         ensures { turned result ≡ decided (state_causes (state self.entry.state) event) (gives (with_state (state_after (state self.entry.state) event) (the_record self))) }
     {
         let state = self.entry.state.after(event)?;
@@ -188,8 +180,7 @@ impl Record {
             return Err(Refusal::DrawNotHandedOut);
         }
         let key = self.entry.key;
-        let is_true = check_seal::<F, C>(cipher, key, claim.draw, claim.text, claim.seal, ring)?;
-        if !is_true {
+        if !check_seal::<F, C>(cipher, key, claim, ring)? {
             *self = counted;
             return Err(Refusal::SealWrong);
         }

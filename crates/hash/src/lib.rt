@@ -74,6 +74,7 @@ fn through_blocks<F: Field>(start: u64, subkey: u64, bytes: &[u8]) -> u64
 }
 
 // One step for four blocks, whose products do not wait for each other.
+#[tactic(auto, using(crate::proofs::Fours::group_step))]
 fn through_group<F: Field>(x: u64, powers: [u64; 4], group: &[u8]) -> u64
     requires { (length group.now ≡ group_bytes) × (Powers F.Field.model powers) }
     ensures element { F.Field.model.means result ≡ through F.Field.model (F.Field.model.means (slice_index powers 3)) (F.Field.model.means x) group.now }
@@ -137,6 +138,7 @@ pub fn hash_by_working<F: Field>(ring: &[u64], text: &[u8]) -> Result<u64, Refus
 }
 
 // The hash under a ring of the caller's own, each subkey of which must be an element's own number.
+#[tactic(auto, using(crate::proofs::Rings::all_own))]
 pub fn hash<F: Field>(ring: &[u64], text: &[u8]) -> Result<u64, Refusal>
     ensures { told result ≡ hash_outcome F.Field.model ring.now text.now }
 {

@@ -2,12 +2,12 @@
 ghost use Rattle.std.specs.Prelude.{◌≡◌, length};
 ghost use Rattle.refusal.specs.Outcomes.{told, mapped};
 ghost use Rattle.sheet.specs.Sheets.{read_outcome};
-ghost use Rattle.sheet.specs.Names.{sealed};
+ghost use Rattle.sheet.specs.Names.{drafted};
 ghost use Rattle.sheet.specs.Writing.{write_outcome, buffer_after};
 ghost use Rattle.hemmuzhan.specs.Sheets.{found_in, Placed, RecordLength};
 
 use refusal::Refusal;
-use sheet::{Read, read_sheet};
+use sheet::{Draft, Read, read_sheet};
 
 // What a record says of its sheet.
 #[derive(Clone, Copy, PartialEq, Eq, Debug)]
@@ -33,16 +33,10 @@ pub fn find_sheet(input: &[u8]) -> Result<Found, Refusal>
 }
 
 // Writes the sheet's record, 24 bytes and the text, to the front of the buffer, and gives the record's length.
-pub fn write_sheet(
-    grave: u16,
-    draw: u64,
-    seal: u64,
-    text: &[u8],
-    buffer: &mut [u8],
-) -> Result<usize, Refusal>
-    ensures answer { told result ≡ write_outcome (sealed grave draw seal text.now) (length buffer.old) }
-    ensures buffer { buffer.new ≡ buffer_after (sealed grave draw seal text.now) buffer.old }
-    ensures size { RecordLength (sealed grave draw seal text.now) }
+pub fn write_sheet(draft: Draft<'_>, buffer: &mut [u8]) -> Result<usize, Refusal>
+    ensures answer { told result ≡ write_outcome (drafted draft.entry) (length buffer.old) }
+    ensures buffer { buffer.new ≡ buffer_after (drafted draft.entry) buffer.old }
+    ensures size { RecordLength (drafted draft.entry) }
 {
-    sheet::write_sheet(grave, draw, seal, text, buffer)
+    draft.write(buffer)
 }

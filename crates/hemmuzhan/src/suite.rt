@@ -1,4 +1,5 @@
-// A field and a cipher: what a seal is made over.
+// A field and a cipher: what a seal is made over. That the ring list ends as zeros is said by each call that is lent one,
+// since no type can say what a `&mut` leaves.
 ghost use Rattle.std.specs.Prelude.{◌≡◌, length, replicate};
 ghost use Rattle.refusal.specs.Outcomes.{told};
 ghost use Rattle.seal.specs.Sealing.{seal_outcome, check_outcome};
@@ -8,7 +9,7 @@ use b63::B63;
 use ciphers::CipherName;
 use fields::FieldName;
 use m61::M61;
-use seal::{Key, Refusal, check_seal, seal_text};
+use seal::{Claim, Key, Refusal, check_seal, seal_text};
 
 #[derive(Clone, Copy, PartialEq, Eq, Debug)]
 pub struct Suite {
@@ -40,25 +41,14 @@ impl Suite {
     }
 
     // Whether a seal is the text's. The ring list ends as zeros, whichever way the call ends.
-    pub fn check(
-        self,
-        key: Key,
-        draw: u64,
-        text: &[u8],
-        seal: u64,
-        ring: &mut [u64],
-    ) -> Result<bool, Refusal>
-        ensures answer { told result ≡ check_outcome (sealing_of self) key draw text.now seal (length ring.old) }
+    pub fn check(self, key: Key, claim: Claim<'_>, ring: &mut [u64]) -> Result<bool, Refusal>
+        ensures answer { told result ≡ check_outcome (sealing_of self) key claim.entry.draw claim.entry.text.now claim.entry.seal (length ring.old) }
         ensures zeros { ring.new ≡ replicate (length ring.old) 0 }
     {
         let Suite { field, mut cipher } = self;
         match field {
-            FieldName::M61 => {
-                check_seal::<M61, CipherName>(&mut cipher, key, draw, text, seal, ring)
-            }
-            FieldName::B63 => {
-                check_seal::<B63, CipherName>(&mut cipher, key, draw, text, seal, ring)
-            }
+            FieldName::M61 => { check_seal::<M61, CipherName>(&mut cipher, key, claim, ring) }
+            FieldName::B63 => { check_seal::<B63, CipherName>(&mut cipher, key, claim, ring) }
         }
     }
 }

@@ -1,5 +1,6 @@
-// The library for C and Rust: numbers and lists alone go in and out, and an answer is 0 or a refusal's number. Keys come as
-// two numbers, and answers that are not a status go where a caller's reference says: C has neither structs of ours nor Result.
+// The library for C and Rust: numbers and lists alone go in and out, and an answer is 0 or a refusal's number. C's interface
+// has neither Result nor our structs: so a key comes as two numbers, field and cipher as one each, a sheet part by part, and
+// what is answered beside the status goes where a reference says, or into the first place of a list.
 #![tactic(auto)]
 
 ghost use Rattle.std.specs.Prelude.{◌≡◌, length, replicate};
@@ -14,7 +15,8 @@ ghost use Rattle.hemmuzhan.specs.Sheets.{grave_read, draw_read, seal_read, text_
 
 use hemmuzhan::{Suite, find_sheet, write_sheet};
 use refusal::Refusal;
-use seal::{Key, Wipe};
+use seal::{Claim, Key, Wipe};
+use sheet::Draft;
 
 // 0, or the refusal's number.
 fn status<T: Drop>(answer: Result<T, Refusal>) -> u8
@@ -93,17 +95,15 @@ fn accept(
     field: u8,
     cipher: u8,
     key: Key,
-    draw: u64,
-    text: &[u8],
-    seal: u64,
+    claim: Claim<'_>,
     ring: &mut [u64],
 ) -> Result<(), Refusal>
-    ensures answer { status (told result) ≡ verdict (checked_outcome field cipher key draw text.now seal (length ring.old)) }
+    ensures answer { status (told result) ≡ verdict (checked_outcome field cipher key claim.entry.draw claim.entry.text.now claim.entry.seal (length ring.old)) }
     ensures zeros { ring.new ≡ replicate (length ring.old) 0 }
 {
     let guard = Wipe { ring };
     let suite = Suite::named(field, cipher)?;
-    if suite.check(key, draw, text, seal, guard.ring)? {
+    if suite.check(key, claim, guard.ring)? {
         Ok(())
     } else {
         Err(Refusal::SealWrong)
@@ -129,7 +129,8 @@ pub extern "C" fn hemmuzhan_check(
         first: key_first,
         second: key_second,
     };
-    status(accept(field, cipher, key, draw, text, seal, ring))
+    let claim = Claim { draw, text, seal };
+    status(accept(field, cipher, key, claim, ring))
 }
 
 // Reads the sheet at the front of the input. Its text begins at byte 24 of the input, and ends its record.
@@ -171,5 +172,11 @@ pub extern "C" fn hemmuzhan_write_sheet(
     ensures buffer { buffer.new ≡ buffer_after (sealed grave draw seal text.now) buffer.old }
     ensures size { RecordLength (sealed grave draw seal text.now) }
 {
-    status(write_sheet(grave, draw, seal, text, buffer))
+    let draft = Draft {
+        grave,
+        draw,
+        seal,
+        text,
+    };
+    status(write_sheet(draft, buffer))
 }

@@ -1,41 +1,77 @@
--- The hexadecimal digits of a number, written from the highest down. Assumes nothing.
-use Rattle.std.proofs.Common.{◌≡◌, ℕ, suc, ◌+◌, ◌-◌, ◌*◌, ◌/◌, ◌%◌, ◌^◌, ◌<◌, ◌≤◌, List, [], ◌∷◌, ◌++◌, sym, ap, ◌∙◌, ap₂, append_assoc, mod-lt, div-one, arith, lit<}
-use lib.Bits.{bit_and}
-use Rattle.std.proofs.lemmas.Nat.{and_mask, shr-shr}
-use Rattle.std.proofs.lemmas.Bool.Decides.{nat_tests}
+-- A number printed in sixteen hexadecimal places is its sixteen digits. Assumes nothing.
+use Rattle.std.proofs.Common.{◌≡◌, ℕ, zero, suc, ◌+◌, ◌-◌, ◌*◌, ◌/◌, ◌%◌, ◌^◌, ◌<◌, ◌≤◌, Bool, true, false, cond, List, [], ◌∷◌, ◌++◌, length, replicate, sym, refl, ap, ◌∙◌, append_assoc, append-nil, ◌==◌, arith}
+use Rattle.std.specs.Fmt.{char_count, digits, digits_onto, padded_integral, format_spec}
+use Rattle.std.proofs.lemmas.Bool.{eq-eqb, eqb-true, false≢true}
+use Rattle.std.proofs.lemmas.List.{replicate_more}
+use Rattle.std.proofs.Math.Nat.{pow-suc}
 use Rattle.listing.specs.Lines.{hex, hex_digit}
 
--- the digit at place i - 1, behind those from place i up
-hex_more : (n i : ℕ) → 0 < i → i ≤ 16
-    → hex (16 - (i - 1)) (n / 2 ^ (4 * (i - 1))) ≡ hex (16 - i) (n / 2 ^ (4 * i)) ++ hex_digit (n / 2 ^ (4 * (i - 1)) % 16) ∷ []
-hex_more n i some most =
-    let m : ℕ = n / 2 ^ (4 * (i - 1)) in
-    let one : 16 - (i - 1) ≡ suc (16 - i) = omega arith in
-    let place : 4 * (i - 1) + 4 ≡ 4 * i = omega arith in
-    ap (λ (k : ℕ). hex k m) one
-    ∙ ap (λ (q : ℕ). hex (16 - i) q ++ hex_digit (m % 16) ∷ [])
-    (shr-shr n (4 * (i - 1)) 4 ∙ ap (λ (k : ℕ). n / 2 ^ k) place)
+-- of zero
+hex_zero : (w : ℕ) → hex w 0 ≡ replicate w 48
+hex_zero zero = refl
+hex_zero (suc w) = ap (λ (xs : List ℕ). xs ++ 48 ∷ []) (hex_zero w) ∙ replicate_more w 48 ∙ ap (λ (k : ℕ). replicate k 48) {x = w + 1} {y = suc w} (omega arith)
 
-hex_digit_ascii : (d : ℕ) → d < 16 → hex_digit d < 128
-hex_digit_ascii d small = grind (arith, nat_tests)
+-- z zeros in front of the digits fill w places in front of what follows them
+record Filled (w n : ℕ) (shown follows : List ℕ) : Type 0 where
+  z : ℕ
+  size : z + length shown ≡ w + length follows
+  text : replicate z 48 ++ shown ≡ hex w n ++ follows
 
--- a turn of the loop: the character c of the next digit d goes behind what was written
-pub pushed : (old new before encoded : List ℕ) (n i d c : ℕ) → 0 < i → i ≤ 16
-    → before ≡ old ++ hex (16 - i) (n / 2 ^ (4 * i)) → new ≡ before ++ encoded
-    → d ≡ bit_and (n / 2 ^ (4 * (i - 1))) 15 → c ≡ hex_digit d → (c < 128 → encoded ≡ c ∷ [])
-    → new ≡ old ++ hex (16 - (i - 1)) (n / 2 ^ (4 * (i - 1)))
-pushed old new before encoded n i d c some most sofar put is_digit is_char ascii =
-    let m : ℕ = n / 2 ^ (4 * (i - 1)) in
-    let low : d ≡ m % 16 = is_digit ∙ and_mask m 4 in
-    let small = hex_digit_ascii (m % 16) (mod-lt m (lit< tt)) in
-    let char : c ≡ hex_digit (m % 16) = is_char ∙ ap hex_digit low in
-    put
-    ∙ ap₂ (λ (xs ys : List ℕ). xs ++ ys) sofar (ascii (omega arith) ∙ ap (λ (x : ℕ). x ∷ []) char)
-    ∙ append_assoc old (hex (16 - i) (n / 2 ^ (4 * i))) (hex_digit (m % 16) ∷ [])
-    ∙ ap (λ (xs : List ℕ). old ++ xs) (sym (hex_more n i some most))
+-- the lowest digit goes behind those of what is left of n
+module _ (n : ℕ) (follows : List ℕ) where
+  abbrev lowest : ℕ
+  lowest = hex_digit (n % 16)
 
--- at the end of the loop
-pub hex_all : (n i : ℕ) → i ≤ 0 → hex (16 - i) (n / 2 ^ (4 * i)) ≡ hex 16 n
-hex_all n i none =
-    let done : i ≡ 0 = omega arith in
-    ap (λ (k : ℕ). hex (16 - k) (n / 2 ^ (4 * k))) done ∙ ap (hex 16) (div-one n)
+  behind : (w : ℕ) (shown : List ℕ) → Filled w (n / 16) shown (lowest ∷ follows) → Filled (suc w) n shown follows
+  behind w shown rest = record {
+    z = rest.z;
+    size = omega (arith, rest.size);
+    text = rest.text ∙ sym (append_assoc (hex w (n / 16)) (lowest ∷ []) follows);
+  }
+
+  alone : (w : ℕ) → n / 16 ≡ 0 → Filled (suc w) n (lowest ∷ follows) follows
+  alone w none = record {
+    z = w;
+    size = omega arith;
+    text =
+        ap (λ (xs : List ℕ). xs ++ (lowest ∷ follows)) (sym (hex_zero w) ∙ ap (hex w) (sym none))
+        ∙ sym (append_assoc (hex w (n / 16)) (lowest ∷ []) follows);
+  }
+
+  either : (w : ℕ) (shown : List ℕ) (none : Bool) → (n / 16 == 0) ≡ none
+      → ((n / 16 ≡ 0 → ⊥) → Filled w (n / 16) shown (lowest ∷ follows))
+      → Filled (suc w) n (cond none (lowest ∷ follows) shown) follows
+  either w shown true is rest = alone w (eqb-true (n / 16) 0 is)
+  either w shown false is rest =
+      behind w shown (rest (λ none. absurd (false≢true (sym is ∙ eq-eqb (n / 16) 0 none))))
+
+filled : (w k n : ℕ) (follows : List ℕ) → w < k → n < 16 ^ suc w
+    → Filled (suc w) n (digits_onto k 16 false n follows) follows
+filled w zero n follows room small = absurd (omega arith)
+filled zero (suc k) n follows room small =
+    either n follows 0 (digits_onto k 16 false (n / 16) (hex_digit (n % 16) ∷ follows)) (n / 16 == 0) refl
+    (λ more. absurd (more (omega (arith, small))))
+filled (suc w) (suc k) n follows room small =
+    let power = pow-suc 16 (suc w) in
+    let left = filled w k (n / 16) (hex_digit (n % 16) ∷ follows) (omega (arith, room)) (omega (arith, small, power)) in
+    either n follows (suc w) _ (n / 16 == 0) refl (λ more. left)
+
+in_places : (w n : ℕ) (shown : List ℕ) → Filled w n shown []
+    → padded_integral (format_spec 32 0 4 w (2 ^ 64 - 1)) false [] shown ≡ hex w n
+unfolding padded_integral char_count
+in_places w n shown f =
+    let zeros : w - length shown - 0 - 0 ≡ f.z = omega (arith, f.size) in
+    ap (λ (k : ℕ). replicate k 48 ++ (shown ++ [])) zeros
+    ∙ ap (λ (xs : List ℕ). replicate f.z 48 ++ xs) (append-nil shown)
+    ∙ f.text
+    ∙ append-nil (hex w n)
+
+from_64 : (n : ℕ) → digits 16 false n ≡ digits_onto 64 16 false n []
+unfolding digits
+from_64 n = refl
+
+pub sixteen_places : (n : ℕ) → n < 2 ^ 64
+    → padded_integral (format_spec 32 0 4 16 (2 ^ 64 - 1)) false [] (digits 16 false n) ≡ hex 16 n
+sixteen_places n small =
+    ap (padded_integral (format_spec 32 0 4 16 (2 ^ 64 - 1)) false []) (from_64 n)
+    ∙ in_places 16 n (digits_onto 64 16 false n []) (filled 15 64 n [] (omega arith) small)

@@ -5,11 +5,10 @@ ghost use Rattle.listing.specs.Requests.{subkeys, request_outcome};
 ghost use Rattle.listing.specs.Lines.{seen};
 ghost use Rattle.listing.specs.Names.{subkeys_read};
 
-use byte_rows::{take_u8, take_u64};
+use byte_rows::take;
 use fields::{FieldName, hash_over};
+use record::Kind;
 use refusal::Refusal;
-
-const HASH_KIND: u16 = 2;
 
 const MOST_SUBKEYS: usize = 8;
 
@@ -20,9 +19,7 @@ fn take_subkeys<'a>(ring: &mut [u64], bytes: &'a [u8]) -> Option<&'a [u8]>
 {
     let mut rest = bytes;
     for place in ring.iter_mut() {
-        let Some((subkey, more)) = take_u64(rest) else {
-            return None;
-        };
+        let (subkey, more) = take::<u64, 8>(rest)?;
         *place = subkey;
         rest = more;
     }
@@ -33,13 +30,13 @@ fn take_subkeys<'a>(ring: &mut [u64], bytes: &'a [u8]) -> Option<&'a [u8]>
 pub fn answer(kind: u16, body: &[u8]) -> Result<u64, Refusal>
     ensures { told result ≡ request_outcome kind body.now }
 {
-    if kind != HASH_KIND {
+    let Ok(Kind::HashRequest) = Kind::try_from(kind) else {
         return Err(Refusal::Undefined);
-    }
-    let Some((field, after_field)) = take_u8(body) else {
+    };
+    let Some((field, after_field)) = take::<u8, 1>(body) else {
         return Err(Refusal::RecordCutShort);
     };
-    let Some((count, after_count)) = take_u8(after_field) else {
+    let Some((count, after_count)) = take::<u8, 1>(after_field) else {
         return Err(Refusal::RecordCutShort);
     };
     let field = FieldName::try_from(field)?;
@@ -47,6 +44,7 @@ pub fn answer(kind: u16, body: &[u8]) -> Result<u64, Refusal>
     if count > MOST_SUBKEYS {
         return Err(Refusal::Undefined);
     }
+    // The ring lies on the stack, as many of eight places as the record says, so that no answer needs the heap.
     let mut places = [0; MOST_SUBKEYS];
     let ring = &mut places[0..count];
     let Some(text) = take_subkeys(ring, after_count) else {

@@ -1,9 +1,9 @@
 // The listing of hash records: a line for each record of an input.
 #![tactic(auto)]
 
-ghost use Rattle.std.specs.Prelude.{◌≡◌, ◌<◌, ◌++◌, IfOk, string_bytes, OnOk};
+ghost use Rattle.std.specs.Prelude.{◌≡◌, IfOk, string_bytes};
 ghost use Rattle.refusal.specs.Outcomes.{told};
-ghost use Rattle.listing.specs.Lines.{outcome_of, next_of, seen, hex, hex_digit, line_of, listing_of, LineByLine};
+ghost use Rattle.listing.specs.Lines.{outcome_of, next_of, seen, line_of, listing_of, LineByLine};
 
 use record::{Record, read_record};
 use refusal::Refusal;
@@ -35,38 +35,12 @@ fn read_entry(input: &[u8]) -> Entry<'_>
     Entry { answer, next }
 }
 
-fn hex_char(digit: u8) -> char
-    requires { digit < 16 }
-    ensures { result ≡ hex_digit digit }
-{
-    if digit < 10 {
-        (b'0' + digit) as char
-    } else {
-        (b'a' + (digit - 10)) as char
-    }
-}
-
-// Appends the number's sixteen hexadecimal digits.
-fn push_hex(text: &mut String, number: u64) -> Result<(), AllocError>
-    ensures { OnOk result (string_bytes text.new ≡ string_bytes text.old ++ hex 16 number) }
-{
-    for i in (0..16u32).rev() {
-        text.push(hex_char(((number >> (4 * i)) & 15) as u8))?;
-    }
-    Ok(())
-}
-
 // The line that an answer prints as, with its newline.
 fn line_text(heap: Global, answer: Result<u64, Refusal>) -> Result<String, AllocError>
     ensures { IfOk result (λ text. string_bytes text ≡ line_of (told answer)) }
 {
     match answer {
-        Ok(hash) => {
-            let mut text = String::new(heap);
-            push_hex(&mut text, hash)?;
-            text.push('\n')?;
-            Ok(text)
-        }
+        Ok(hash) => format!(in heap; "{hash:016x}\n"),
         Err(refusal) => format!(in heap; "{refusal}\n"),
     }
 }

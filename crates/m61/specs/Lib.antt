@@ -1,2 +1,1 @@
 pub mod Mersenne
-pub mod Wide

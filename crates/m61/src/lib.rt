@@ -1,23 +1,31 @@
 // M61: whole numbers modulo the prime 2^61 - 1. Since 2^61 means 1, the bits from 61 up are added back at the bottom.
 #![tactic(auto)]
 
-ghost use Rattle.std.specs.Prelude.{◌≡◌, ◌+◌, ◌*◌, ◌^◌, ◌≤◌};
+ghost use Rattle.std.specs.Prelude.{◌≡◌, ℕ, ◌+◌, ◌-◌, ◌*◌, ◌^◌, ◌≤◌};
 ghost use Rattle.field.specs.WeightedSums.{weighted_sum};
 ghost use Rattle.m61.specs.Mersenne.{m61, means61, prime};
-ghost use Rattle.m61.specs.Wide.{whole, Small, Few};
 ghost use Rattle.std.proofs.Common.{lit<, lit≤};
 ghost use Rattle.field.proofs.ModularLaws.{modulo_laws};
 
 use field::Field;
+use std::marker::Model;
 
 const PRIME: u64 = 0x1fff_ffff_ffff_ffff;
 
+// A number that is at most a little above the prime, so that two of them can be multiplied.
+#[derive(Drop)]
+struct Folded {
+    value: u64,
+    ghost small: { value ≤ 2 ^ 61 + 6 },
+}
+
 // A smaller number that means the same.
-fn fold(x: u64) -> u64
-    ensures same { means61 result ≡ means61 x }
-    ensures small { result ≤ 2 ^ 61 + 6 }
+fn fold(x: u64) -> Folded
+    ensures { means61 result.value ≡ means61 x }
 {
-    (x >> 61) + (x & PRIME)
+    Folded {
+        value: (x >> 61) + (x & PRIME),
+    }
 }
 
 // The one multiplication of whole numbers: both factors are below 2^32, so that the product fits one word.
@@ -42,59 +50,40 @@ fn split(x: u64) -> Limbs
     }
 }
 
-// A product of two words, too wide for one: high * 2^64 + middle * 2^32 + low.
-#[derive(Clone, Copy)]
-struct Wide {
+// A number too wide for a word, high * 2^64 + middle * 2^32 + low, as large as up to four products can make it, added
+// part by part: N of them.
+#[derive(Drop)]
+struct Wide<const N: u64> {
     high: u64,
     middle: u64,
     low: u64,
 }
 
-fn wide_product(x: u64, y: u64) -> Wide
-    requires { (x ≤ 2 ^ 61 + 6) × (y ≤ 2 ^ 61 + 6) }
-    ensures whole { whole result ≡ x * y }
-    ensures small { Small result }
-{
-    let Limbs { high: a, low: b } = split(x);
-    let Limbs { high: c, low: d } = split(y);
-    Wide {
-        high: multiply(a, c),
-        middle: multiply(a, d) + multiply(b, c),
-        low: multiply(b, d),
-    }
-}
+impl<const N: u64> Model for Wide<N> {
+    ghost Value = { ℕ };
 
-// A number that means the same as the wide one: 2^64 means 8, and 2^29 * 2^32 means 1.
-fn fold_wide(wide: Wide) -> u64
-    requires { Small wide }
-    ensures same { means61 result ≡ means61 (whole wide) }
-    ensures small { result ≤ 2 ^ 61 + 6 }
-{
-    let Wide { high, middle, low } = wide;
-    let middle_high = middle >> 29;
-    let middle_low = (middle & 0x1fff_ffff) << 32;
-    fold((high << 3) + middle_high + middle_low + fold(low))
+    ghost view = { λ w. w.high * 2 ^ 64 + w.middle * 2 ^ 32 + w.low };
+
+    ghost invariant = { λ w.
+        (N ≤ 4) × (w.high ≤ N * 2 ^ 58) × (w.middle ≤ N * (2 ^ 62 - 1)) × (w.low ≤ N * (2 ^ 61 + 6)) };
 }
 
 // A wide number that means the product of what the two mean. Its low part is folded, so that four such fit when they
 // are added part by part.
-fn summand(x: u64, y: u64) -> Wide
-    ensures same { means61 (whole result) ≡ m61.times (means61 x) (means61 y) }
-    ensures few { Few 1 result }
+fn wide_product(x: u64, y: u64) -> Wide<1>
+    ensures { means61 result ≡ m61.times (means61 x) (means61 y) }
 {
-    let Wide { high, middle, low } = wide_product(fold(x), fold(y));
+    let Limbs { high: a, low: b } = split(fold(x).value);
+    let Limbs { high: c, low: d } = split(fold(y).value);
     Wide {
-        high,
-        middle,
-        low: fold(low),
+        high: multiply(a, c),
+        middle: multiply(a, d) + multiply(b, c),
+        low: fold(multiply(b, d)).value,
     }
 }
 
-// The sum of four summands, part by part.
-fn add_four(a: Wide, b: Wide, c: Wide, d: Wide) -> Wide
-    requires { (Few 1 a) × ((Few 1 b) × ((Few 1 c) × (Few 1 d))) }
-    ensures whole { whole result ≡ (whole a + whole b) + (whole c + whole d) }
-    ensures few { Few 4 result }
+fn add_four(a: Wide<1>, b: Wide<1>, c: Wide<1>, d: Wide<1>) -> Wide<4>
+    ensures { result ≡ (a + b) + (c + d) }
 {
     Wide {
         high: a.high + b.high + c.high + d.high,
@@ -103,16 +92,20 @@ fn add_four(a: Wide, b: Wide, c: Wide, d: Wide) -> Wide
     }
 }
 
-// A number that means the same as the sum of four summands.
-fn fold_sum(sum: Wide) -> u64
-    requires { Few 4 sum }
-    ensures same { means61 result ≡ means61 (whole sum) }
-    ensures small { result ≤ 2 ^ 61 + 6 }
+// A number that means the same as the wide one: 2^64 means 8, and 2^29 * 2^32 means 1.
+fn fold_wide<const N: u64>(wide: Wide<N>) -> Folded
+    ensures { means61 result.value ≡ means61 wide.entry }
 {
-    let top = fold(sum.high << 3);
-    let middle_high = sum.middle >> 29;
-    let middle_low = (sum.middle & 0x1fff_ffff) << 32;
-    fold(top + middle_high + middle_low + sum.low)
+    let Wide { high, middle, low } = wide;
+    // Of four products the high part is folded by itself, or the sum would not fit.
+    let top = if N < 4 {
+        high << 3
+    } else {
+        fold(high << 3).value
+    };
+    let middle_high = middle >> 29;
+    let middle_low = (middle & 0x1fff_ffff) << 32;
+    fold(top + middle_high + middle_low + low)
 }
 
 pub struct M61;
@@ -130,14 +123,14 @@ impl Field for M61 {
         ensures element { means61 result ≡ m61.plus (means61 a) (means61 b) }
         ensures small { result ≤ 2 ^ 61 + 6 }
     {
-        fold(fold(a) + fold(b))
+        fold(fold(a).value + fold(b).value).value
     }
 
     fn product(a: u64, b: u64) -> u64
         ensures element { means61 result ≡ m61.times (means61 a) (means61 b) }
         ensures small { result ≤ 2 ^ 61 + 6 }
     {
-        fold_wide(wide_product(fold(a), fold(b)))
+        fold_wide(wide_product(a, b)).value
     }
 
     // The products are added while they are wide, and folded once.
@@ -147,7 +140,13 @@ impl Field for M61 {
     {
         let [a, b, c, d] = numbers;
         let [s, t, u, v] = weights;
-        fold_sum(add_four(summand(a, s), summand(b, t), summand(c, u), summand(d, v)))
+        let sum = add_four(
+            wide_product(a, s),
+            wide_product(b, t),
+            wide_product(c, u),
+            wide_product(d, v),
+        );
+        fold_wide(sum).value
     }
 
     // A folded number is the prime or above exactly if one more reaches 2^61; then the carry is 1, and adding it and
@@ -155,7 +154,7 @@ impl Field for M61 {
     fn reduce(x: u64) -> u64
         ensures { result ≡ means61 x }
     {
-        let y = fold(x);
+        let Folded { value: y } = fold(x);
         let carry = (y + 1) >> 61;
         (y + carry) & PRIME
     }

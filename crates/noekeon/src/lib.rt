@@ -3,7 +3,7 @@
 #![tactic(auto)]
 
 ghost use Rattle.std.specs.Prelude.{◌≡◌, ◌+◌, ◌*◌, ◌/◌, ◌%◌, ◌^◌};
-ghost use Rattle.noekeon.specs.Noekeon.{words_of, block_of, with_constant, round_of, enciphered_of, noekeon};
+ghost use Rattle.noekeon.specs.Noekeon.{words_of, block_of, with_constant, round_of, rounds_of, enciphered_of, noekeon};
 ghost use Rattle.noekeon.specs.Steps.{spread_of, theta_of, pi1_of, pi2_of, gamma_of};
 
 use cipher::{Block, Cipher, Key};
@@ -17,26 +17,42 @@ struct Words {
     a3: u32,
 }
 
-impl Words {
-    // The halves of two numbers, the high one first.
-    fn read(first: u64, second: u64) -> Words
-        ensures { result ≡ words_of first second }
-    {
-        Words {
-            a0: high(first),
-            a1: low(first),
-            a2: high(second),
-            a3: low(second),
+impl From<Key> for Words {
+    ghost from_gives = { λ key words. words ≡ words_of key.first key.second };
+
+    fn from(key: Key) -> Words {
+        halves(key.first, key.second)
+    }
+}
+
+impl From<Block> for Words {
+    ghost from_gives = { λ block words. words ≡ words_of block.first block.second };
+
+    fn from(block: Block) -> Words {
+        halves(block.first, block.second)
+    }
+}
+
+impl From<Words> for Block {
+    ghost from_gives = { λ words block. block ≡ block_of words };
+
+    fn from(words: Words) -> Block {
+        Block {
+            first: joined(words.a0, words.a1),
+            second: joined(words.a2, words.a3),
         }
     }
+}
 
-    fn block(self) -> Block
-        ensures { result ≡ block_of self }
-    {
-        Block {
-            first: joined(self.a0, self.a1),
-            second: joined(self.a2, self.a3),
-        }
+// The halves of two numbers, the high one first.
+fn halves(first: u64, second: u64) -> Words
+    ensures { result ≡ words_of first second }
+{
+    Words {
+        a0: high(first),
+        a1: low(first),
+        a2: high(second),
+        a3: low(second),
     }
 }
 
@@ -64,6 +80,7 @@ fn spread(u: u32) -> u32
     u ^ u.rotate_left(8) ^ u.rotate_right(8)
 }
 
+#[tactic(auto, unfolding(crate::specs::Steps::theta_of))]
 fn theta(k: Words, a: Words) -> Words
     ensures { result ≡ theta_of k a }
 {
@@ -86,6 +103,8 @@ fn theta(k: Words, a: Words) -> Words
     Words { a0, a1, a2, a3 }
 }
 
+// Stays beside pi2, which undoes it: the two are published under these names.
+#[tactic(auto, unfolding(crate::specs::Steps::pi1_of))]
 fn pi1(a: Words) -> Words
     ensures { result ≡ pi1_of a }
 {
@@ -97,6 +116,7 @@ fn pi1(a: Words) -> Words
     }
 }
 
+#[tactic(auto, unfolding(crate::specs::Steps::gamma_of))]
 fn gamma(a: Words) -> Words
     ensures { result ≡ gamma_of a }
 {
@@ -115,6 +135,7 @@ fn gamma(a: Words) -> Words
     Words { a0, a1, a2, a3 }
 }
 
+#[tactic(auto, unfolding(crate::specs::Steps::pi2_of))]
 fn pi2(a: Words) -> Words
     ensures { result ≡ pi2_of a }
 {
@@ -135,26 +156,34 @@ fn add_constant(constant: u32, a: Words) -> Words
     }
 }
 
+#[tactic(auto, unfolding(crate::specs::Noekeon::round_of))]
 fn round(k: Words, a: Words, constant: u32) -> Words
     ensures { result ≡ round_of k a constant }
 {
     pi2(gamma(pi1(theta(k, add_constant(constant, a)))))
 }
 
-// The constants of the sixteen rounds, and of the step behind them.
-const CONSTANTS: [u32; 17] = [
+// The constants of the sixteen rounds, and that of the step behind them.
+const ROUND_CONSTANTS: [u32; 16] = [
     0x80, 0x1b, 0x36, 0x6c, 0xd8, 0xab, 0x4d, 0x9a, 0x2f, 0x5e, 0xbc, 0x63, 0xc6, 0x97, 0x35, 0x6a,
-    0xd4,
 ];
 
+const LAST_CONSTANT: u32 = 0xd4;
+
+fn rounds(k: Words, block: Words, constants: &[u32]) -> Words
+    ensures { result ≡ rounds_of k block constants.now }
+{
+    constants
+        .iter()
+        .fold(block, |a, constant| round(k, a, *constant))
+}
+
+#[tactic(auto, unfolding(crate::specs::Noekeon::enciphered_of))]
 fn enciphered(k: Words, block: Words) -> Words
     ensures { result ≡ enciphered_of k block }
 {
-    let mut a = block;
-    for constant in &CONSTANTS[0..16] {
-        a = round(k, a, *constant);
-    }
-    theta(k, add_constant(CONSTANTS[16], a))
+    let a = rounds(k, block, &ROUND_CONSTANTS);
+    theta(k, add_constant(LAST_CONSTANT, a))
 }
 
 #[derive(Clone, Copy)]
@@ -163,9 +192,8 @@ pub struct Noekeon;
 impl Cipher for Noekeon {
     ghost function = { λ _. noekeon };
 
+    #[tactic(auto, unfolding(crate::specs::Noekeon::noekeon))]
     fn encipher(&mut self, key: Key, block: Block) -> Block {
-        let k = Words::read(key.first, key.second);
-        let a = Words::read(block.first, block.second);
-        enciphered(k, a).block()
+        Block::from(enciphered(Words::from(key), Words::from(block)))
     }
 }

@@ -8,7 +8,7 @@ use Rattle.promise.specs.Records.{Record, Table, grave}
 use Rattle.promise.specs.Records.{after_open, after_draw, after_seal, after_void, after_clear, after_close}
 use Rattle.promise.specs.Register.{open_causes, draw_causes, seal_causes, void_causes, use_causes, named}
 use Rattle.promise.specs.Register.{answer, written, table}
-use Rattle.promise.proofs.Causes.{NoneThere}
+use Rattle.refusal.proofs.Decided.{Absent}
 use Rattle.promise.proofs.Runs.{TrueBook, true_refused}
 use Rattle.promise.proofs.Granted.{opens, draws, seals, voids, clears, closes}
 use Rattle.promise.proofs.Checked.{checks}
@@ -16,7 +16,7 @@ use Rattle.promise.proofs.Checked.{checks}
 module _ (S : Sealing) {h : History} {t : Table} (B : TrueBook S h t) (g : ℕ) where
   -- where a call that is not refused leaves a true book, so does the call
   decides : {X : Type 0} (e : Outcome X → Event) → ((n : ℕ) → e (refuses n) ≡ turned_away n) →
-      (cs : List Cause) (x : X) (r : Record) → (NoneThere cs → TrueBook S (e (gives x) ∷ h) (set t g r)) →
+      (cs : List Cause) (x : X) (r : Record) → (Absent cs → TrueBook S (e (gives x) ∷ h) (set t g r)) →
       TrueBook S (e (decided cs (gives x)) ∷ h) (written t g (decided cs (gives r)))
   decides e away [] x r f = f tt
   decides e away (c ∷ cs) x r f = go c.there (λ absent. decides e away cs x r (λ none. f (absent, none)))

@@ -14,7 +14,8 @@ use Rattle.promise.specs.Register.{check_causes, named}
 use Rattle.promise.specs.Law.{Untouched, Known, was_sealed, shares_hash, never_asked, Earned, Fair}
 use Rattle.promise.specs.Promise.{state_of, key_or_none, recorded}
 use Rattle.promise.proofs.Among.{all_among, some_or_none}
-use Rattle.promise.proofs.Causes.{NoneThere, ◌also◌, absent, refuses≢gives, given_where_none, none_where_given}
+use Rattle.refusal.proofs.Decided.{Absent, undecided, given}
+use Rattle.promise.proofs.Causes.{◌also◌, absent}
 use Rattle.promise.proofs.States.{used, below_four, open_state}
 use Rattle.promise.proofs.Pasts.{Sound}
 
@@ -62,7 +63,7 @@ module _ (S : Sealing) (L : SealingLaws S) (g : ℕ) {past : List Act} (P : Soun
   abbrev causes : List Cause
   causes = named g (check_causes S (recorded past) s p)
 
-  earned : NoneThere causes → Earned S past s (standing (newest (sheets past)) s.draw)
+  earned : Absent causes → Earned S past s (standing (newest (sheets past)) s.draw)
   earned none =
       let k = key_or_none (key past) in
       let in_use_now = absent 4 causes none in
@@ -82,7 +83,7 @@ module _ (S : Sealing) (L : SealingLaws S) (g : ℕ) {past : List Act} (P : Soun
       }
 
   -- an untouched sheet meets no cause of refusal
-  passes : (is_free (recorded past).state ≡ false → g < 256) → Untouched S past s p → NoneThere causes
+  passes : (is_free (recorded past).state ≡ false → g < 256) → Untouched S past s p → Absent causes
   passes low u =
       let r = (all_among _ (sheets past) s P.right u.sealed_here).true_sheet in
       let state_is = open_now r.by r.by_is in
@@ -106,9 +107,9 @@ module _ (S : Sealing) (L : SealingLaws S) (g : ℕ) {past : List Act} (P : Soun
   pub fair : (is_free (recorded past).state ≡ false → g < 256) → (o : Outcome Standing) →
       decided causes (gives (standing (newest (sheets past)) s.draw)) ≡ o → Fair S past s p o
   fair low (gives v) e =
-      let w = none_where_given causes (gives (standing (newest (sheets past)) s.draw)) v e in
-      subst (Earned S past s) (same_value w.1) (earned w.0)
-    where
-      same_value : {v w : Standing} → gives v ≡ gives w → v ≡ w
-      same_value e = cc
-  fair low (refuses n) e = λ u. refuses≢gives (sym e ∙ given_where_none causes _ (passes low u))
+      let w = given causes v (standing (newest (sheets past)) s.draw) (sym e) in
+      subst (Earned S past s) (sym w.1) (earned w.0)
+  fair low (refuses n) e = λ u.
+      let never : refuses n ≡ gives (standing (newest (sheets past)) s.draw) =
+      sym e ∙ sym (undecided causes (gives (standing (newest (sheets past)) s.draw)) (passes low u)) in
+      cc

@@ -10,7 +10,8 @@ use Rattle.promise.specs.Records.{after_open, after_draw, after_seal, after_void
 use Rattle.promise.specs.Register.{open_causes, draw_causes, seal_causes, void_causes, use_causes, named}
 use Rattle.promise.specs.Promise.{key_or_none, recorded}
 use Rattle.promise.proofs.Draws.{among_from_holds}
-use Rattle.promise.proofs.Causes.{NoneThere, absent}
+use Rattle.refusal.proofs.Decided.{Absent}
+use Rattle.promise.proofs.Causes.{absent}
 use Rattle.promise.proofs.States.{Used, used, used_not_free, cleared_state, closed_state}
 use Rattle.promise.proofs.Pasts.{sound_drawn, sound_voided, sound_cleared, sound_closed}
 use Rattle.promise.proofs.Quiet.{drawn_quiet, voided_quiet, cleared_quiet, closed_quiet}
@@ -32,7 +33,7 @@ module _ (S : Sealing) {h : History} {t : Table} (B : TrueBook S h t) (g : ℕ) 
   pub in_the_book : free_or_closed (recorded past).state ≡ false → g < 256
   in_the_book in_use = one_of_the_book S B g (used_not_free (recorded past).state in_use)
 
-  pub opens : (k : Key) → NoneThere (named g (open_causes t (grave t g) k)) →
+  pub opens : (k : Key) → Absent (named g (open_causes t (grave t g) k)) →
       TrueBook S (on g (opened k) ∷ h) (set t g (after_open k (grave t g)))
   opens k none =
       let causes = named g (open_causes t (grave t g) k) in
@@ -42,10 +43,10 @@ module _ (S : Sealing) {h : History} {t : Table} (B : TrueBook S h t) (g : ℕ) 
       true_open S B g k (subst (λ (r : Record). is_free r.state ≡ true) (B.records g) free) new_key (omega arith)
       (after_open k (grave t g)) (ap (after_open k) (B.records g))
 
-  pub draws : NoneThere (named g (draw_causes (grave t g))) →
+  pub draws : Absent (named g (draw_causes (grave t g))) →
       TrueBook S (on g (drawn (grave t g).next) ∷ h) (set t g (after_draw (grave t g)))
   draws =
-      at_record (λ r. NoneThere (named g (draw_causes r)) →
+      at_record (λ r. Absent (named g (draw_causes r)) →
       TrueBook S (on g (drawn r.next) ∷ h) (set t g (after_draw r)))
       (λ none.
       let causes = named g (draw_causes (recorded past)) in
@@ -54,11 +55,11 @@ module _ (S : Sealing) {h : History} {t : Table} (B : TrueBook S h t) (g : ℕ) 
       true_act S B g (drawn (handed_out past)) (drawn_quiet (handed_out past)) (sound_drawn S (B.sound g) room more)
       (after_draw (recorded past)) (in_the_book (absent 4 causes none)) refl)
 
-  pub seals : (d : ℕ) (x : List ℕ) (p : ℕ) → NoneThere (seal_causes S (grave t g) d x p) →
+  pub seals : (d : ℕ) (x : List ℕ) (p : ℕ) → Absent (seal_causes S (grave t g) d x p) →
       TrueBook S (on g (sealed (record { draw = d; text = x; seal = S.seal (grave t g).key d x })) ∷ h)
       (set t g (after_seal d (grave t g)))
   seals d x p =
-      at_record (λ r. NoneThere (seal_causes S r d x p) →
+      at_record (λ r. Absent (seal_causes S r d x p) →
       TrueBook S (on g (sealed (record { draw = d; text = x; seal = S.seal r.key d x })) ∷ h)
       (set t g (after_seal d r)))
       (λ none.
@@ -70,30 +71,30 @@ module _ (S : Sealing) {h : History} {t : Table} (B : TrueBook S h t) (g : ℕ) 
       true_seal S B g (record { draw = d; text = x; seal = S.seal k d x }) k (used_now in_use_now).its_key here
       (in_the_book in_use_now) short refl (after_seal d (recorded past)) (rw add-one))
 
-  pub voids : (d : ℕ) → NoneThere (void_causes (grave t g) d) →
+  pub voids : (d : ℕ) → Absent (void_causes (grave t g) d) →
       TrueBook S (on g (voided d) ∷ h) (set t g (after_void d (grave t g)))
   voids d =
-      at_record (λ r. NoneThere (void_causes r d) → TrueBook S (on g (voided d) ∷ h) (set t g (after_void d r)))
+      at_record (λ r. Absent (void_causes r d) → TrueBook S (on g (voided d) ∷ h) (set t g (after_void d r)))
       (λ none.
       let causes = void_causes (recorded past) d in
       let here = among_from_holds d (held past) (not-false _ (absent 8 causes none)) in
       true_act S B g (voided d) (voided_quiet d) (sound_voided S (B.sound g) d here)
       (after_void d (recorded past)) (in_the_book (absent 4 causes none)) refl)
 
-  pub clears : NoneThere (named g (use_causes (grave t g))) →
+  pub clears : Absent (named g (use_causes (grave t g))) →
       TrueBook S (on g cleared ∷ h) (set t g (after_clear (grave t g)))
   clears =
-      at_record (λ r. NoneThere (named g (use_causes r)) → TrueBook S (on g cleared ∷ h) (set t g (after_clear r)))
+      at_record (λ r. Absent (named g (use_causes r)) → TrueBook S (on g cleared ∷ h) (set t g (after_clear r)))
       (λ none.
       let in_use_now = absent 4 (named g (use_causes (recorded past))) none in
       let its_state = cleared_state (key past) (in_use past) (used_now in_use_now) in
       true_act S B g cleared cleared_quiet (sound_cleared S (B.sound g)) (after_clear (recorded past))
       (in_the_book in_use_now) (ap (λ (s : State). with_state s (recorded past)) its_state))
 
-  pub closes : NoneThere (named g (use_causes (grave t g))) →
+  pub closes : Absent (named g (use_causes (grave t g))) →
       TrueBook S (on g closed ∷ h) (set t g (after_close (grave t g)))
   closes =
-      at_record (λ r. NoneThere (named g (use_causes r)) → TrueBook S (on g closed ∷ h) (set t g (after_close r)))
+      at_record (λ r. Absent (named g (use_causes r)) → TrueBook S (on g closed ∷ h) (set t g (after_close r)))
       (λ none.
       let in_use_now = absent 4 (named g (use_causes (recorded past))) none in
       let its_state = closed_state (key past) (in_use past) (false_seals past) (used_now in_use_now) in

@@ -17,7 +17,6 @@ mod Checked
 mod Calls
 pub mod Theorem
 -- what the code's proofs cite
-pub mod OneGrave
 pub mod Continues
 -- what the law refutes, and examples of the rules
 mod Teeth

@@ -1,2 +1,3 @@
 mod Framed
 pub mod Back
+pub mod Named

@@ -1,11 +1,47 @@
-// Records: the frame that every kind shares.
+// Records: the frame that every kind shares, and the kinds.
 #![tactic(auto)]
 
 ghost use Rattle.std.specs.Prelude.{◌≡◌};
+ghost use Rattle.std.specs.Result.{result_ok};
+ghost use Rattle.record.specs.Kinds.{number_of, kind_named};
 ghost use Rattle.record.specs.Records.{record_of, parts};
+
+// What a record holds.
+#[derive(Clone, Copy, PartialEq, Eq, Debug)]
+pub enum Kind {
+    SealedSheet = 1,
+    HashRequest = 2,
+}
+
+impl Kind {
+    pub fn number(self) -> u16
+        ensures { result ≡ number_of self }
+    {
+        self as u16
+    }
+}
+
+// A number that stands for no kind.
+#[derive(Clone, Copy, PartialEq, Eq, Debug)]
+pub struct UnknownKind;
+
+impl TryFrom<u16> for Kind {
+    type Error = UnknownKind;
+
+    ghost try_from_gives = { λ number r. result_ok r ≡ kind_named number };
+
+    fn try_from(number: u16) -> Result<Kind, UnknownKind> {
+        match number {
+            1 => Ok(Kind::SealedSheet),
+            2 => Ok(Kind::HashRequest),
+            _ => Err(UnknownKind),
+        }
+    }
+}
 
 #[derive(Clone, Copy)]
 pub struct Record<'a> {
+    // the kind's number; a frame is read whether or not a kind has it
     pub kind: u16,
     // what follows the kind within the record
     pub body: &'a [u8],

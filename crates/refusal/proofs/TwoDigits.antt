@@ -47,7 +47,7 @@ in_two_places : (n : ℕ) → n < 100
 unfolding padded_integral char_count
 in_two_places n few = ⊎_elim
     (λ one. let tens : n / 10 ≡ 0 = omega arith in let ones : n % 10 ≡ n = omega arith in
-        rw (decimal_digit n one, tens, ones))
+    rw (decimal_digit n one, tens, ones))
     (λ two. rw (decimal_step n two (omega arith), decimal_digit (n / 10) (omega arith)))
     (cases_lt n 10)
 

@@ -21,19 +21,24 @@ pub use wipe::Wipe;
 // What marks a seal's own block: the blocks of subkeys begin with 0.
 const OWN: u64 = 1 << 63;
 
+// What a `&mut` leaves, only a call's own clause can say: so each call that is lent a ring list says that it ends as zeros,
+// and each that asks a cipher that its function is kept.
+
+// Cipher and key stay two parameters: the public calls give them apart, and a pair would be undone in each function.
+
 // Writes subkey c to place c, for each c below n.
 fn write_subkeys<F: Field, C: Cipher>(cipher: &mut C, key: Key, n: usize, ring: &mut [u64])
     requires { n ≤ length ring.old }
     ensures ring { Subkeys F.Field.model (C.Cipher.function cipher.old) key n ring.new }
     ensures kept { C.Cipher.function cipher.new ≡ C.Cipher.function cipher.old }
 {
-    for c in 0..n {
+    for (c, place) in ring[..n].iter_mut().enumerate() {
         let block = Block {
             first: 0,
             second: c as u64,
         };
         let answer = cipher.encipher(key, block);
-        ring[c] = F::reduce(answer.first);
+        *place = F::reduce(answer.first);
     }
 }
 
@@ -54,6 +59,7 @@ fn hash_by_key<F: Field, C: Cipher>(
 }
 
 // The seal of the text. The ring list ends as zeros, whichever way the call ends.
+#[tactic(auto, using(crate::proofs::Apart::sealing_laws, crate::proofs::Sealed::sealed))]
 pub fn seal_text<F: Field, C: Cipher>(
     cipher: &mut C,
     key: Key,
@@ -76,19 +82,26 @@ pub fn seal_text<F: Field, C: Cipher>(
     Ok(answer.first)
 }
 
+// A sheet's parts, as they are given to a check.
+#[derive(Clone, Copy)]
+pub struct Claim<'a> {
+    pub draw: u64,
+    pub text: &'a [u8],
+    pub seal: u64,
+}
+
 // Whether a seal is the text's. The ring list ends as zeros, whichever way the call ends.
 pub fn check_seal<F: Field, C: Cipher>(
     cipher: &mut C,
     key: Key,
-    draw: u64,
-    text: &[u8],
-    seal: u64,
+    claim: Claim<'_>,
     ring: &mut [u64],
 ) -> Result<bool, Refusal>
-    ensures answer { told result ≡ check_outcome (sealing F.Field.model (C.Cipher.function cipher.old)) key draw text.now seal (length ring.old) }
+    ensures answer { told result ≡ check_outcome (sealing F.Field.model (C.Cipher.function cipher.old)) key claim.entry.draw claim.entry.text.now claim.entry.seal (length ring.old) }
     ensures zeros { ring.new ≡ replicate (length ring.old) 0 }
     ensures kept { C.Cipher.function cipher.new ≡ C.Cipher.function cipher.old }
 {
+    let Claim { draw, text, seal } = claim;
     let expected = seal_text::<F, C>(cipher, key, draw, text, ring)?;
     Ok(seal == expected)
 }

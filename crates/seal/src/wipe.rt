@@ -9,15 +9,7 @@ impl Drop for Wipe<'_> {
     fn drop(self)
         ensures { self.exit.0.now ≡ replicate (length self.entry.ring.now) 0 }
     {
-        clear(self.ring);
+        self.ring.fill(0);
         let Wipe { ring: _ } = self;
-    }
-}
-
-fn clear(ring: &mut [u64])
-    ensures { ring.new ≡ replicate (length ring.old) 0 }
-{
-    for place in ring.iter_mut() {
-        *place = 0;
     }
 }

@@ -19,6 +19,7 @@ fn agrees<F: Field>(ring: &[u64], text: &[u8], expected: u64) -> bool
     }
 }
 
+// Two lists over one generic function; that each agrees is the whole of what it answers, so each says it.
 fn m61_agrees() -> bool
     ensures { result ≡ true }
 {

@@ -4,14 +4,12 @@
 ghost use Rattle.std.specs.Prelude.{◌≡◌, ◌+◌, ◌≤◌, length, take, IfOk};
 ghost use Rattle.refusal.specs.Outcomes.{told, mapped, gives, decided};
 ghost use Rattle.sheet.specs.Sheets.{sheet_in, limit_causes, body_causes, read_outcome};
-ghost use Rattle.sheet.specs.Names.{sealed, sheet_seen, all_seen};
+ghost use Rattle.sheet.specs.Names.{drafted, sheet_seen, all_seen};
 ghost use Rattle.sheet.specs.Writing.{write_outcome, buffer_after, put_at, ReadsBack, WritesBack};
 
-use byte_rows::{LONGEST_TEXT, take_u16, take_u64};
-use record::{Record, read_record};
+use byte_rows::{LONGEST_TEXT, take};
+use record::{Kind, Record, read_record};
 use refusal::Refusal;
-
-const SHEET_KIND: u16 = 1;
 
 const HIGHEST_GRAVE: u16 = 255;
 
@@ -50,13 +48,13 @@ fn check_limits(grave: u16, text: &[u8]) -> Result<(), Refusal>
 fn read_body(body: &[u8]) -> Result<Sheet<'_>, Refusal>
     ensures { mapped sheet_seen (told result) ≡ decided (body_causes body.now) (gives (sheet_in body.now)) }
 {
-    let Some((grave, after_grave)) = take_u16(body) else {
+    let Some((grave, after_grave)) = take::<u16, 2>(body) else {
         return Err(Refusal::RecordCutShort);
     };
-    let Some((draw, after_draw)) = take_u64(after_grave) else {
+    let Some((draw, after_draw)) = take::<u64, 8>(after_grave) else {
         return Err(Refusal::RecordCutShort);
     };
-    let Some((seal, text)) = take_u64(after_draw) else {
+    let Some((seal, text)) = take::<u64, 8>(after_draw) else {
         return Err(Refusal::RecordCutShort);
     };
     check_limits(grave, text)?;
@@ -76,9 +74,9 @@ pub fn read_sheet(input: &[u8]) -> Result<Read<'_>, Refusal>
     let Some(Record { kind, body, rest }) = read_record(input) else {
         return Err(Refusal::RecordCutShort);
     };
-    if kind != SHEET_KIND {
+    let Ok(Kind::SealedSheet) = Kind::try_from(kind) else {
         return Err(Refusal::Undefined);
-    }
+    };
     let sheet = read_body(body)?;
     Ok(Read { sheet, rest })
 }
@@ -91,30 +89,41 @@ fn put(buffer: &mut [u8], place: usize, bytes: &[u8])
     buffer[place..place + bytes.len()].copy_from_slice(bytes);
 }
 
-// Writes the sheet's record to the front of the buffer, and gives the record's length.
-pub fn write_sheet(
-    grave: u16,
-    draw: u64,
-    seal: u64,
-    text: &[u8],
-    buffer: &mut [u8],
-) -> Result<usize, Refusal>
-    ensures answer { told result ≡ write_outcome (sealed grave draw seal text.now) (length buffer.old) }
-    ensures buffer { buffer.new ≡ buffer_after (sealed grave draw seal text.now) buffer.old }
-    ensures back { IfOk result (λ n. ReadsBack (take n buffer.new) (sealed grave draw seal text.now)) }
-{
-    check_limits(grave, text)?;
-    let size = FIXED_BYTES + text.len();
-    if buffer.len() < size {
-        return Err(Refusal::BufferTooShort);
+// A sheet to be written. It may ask for a grave that no sheet can have.
+#[derive(Clone, Copy)]
+pub struct Draft<'a> {
+    pub grave: u16,
+    pub draw: u64,
+    pub seal: u64,
+    pub text: &'a [u8],
+}
+
+impl Draft<'_> {
+    // Writes the sheet's record to the front of the buffer, and gives the record's length.
+    pub fn write(self, buffer: &mut [u8]) -> Result<usize, Refusal>
+        ensures answer { told result ≡ write_outcome (drafted self.entry) (length buffer.old) }
+        ensures buffer { buffer.new ≡ buffer_after (drafted self.entry) buffer.old }
+        ensures back { IfOk result (λ n. ReadsBack (take n buffer.new) (drafted self.entry)) }
+    {
+        let Draft {
+            grave,
+            draw,
+            seal,
+            text,
+        } = self;
+        check_limits(grave, text)?;
+        let size = FIXED_BYTES + text.len();
+        if buffer.len() < size {
+            return Err(Refusal::BufferTooShort);
+        }
+        put(buffer, 0, &((size - 4) as u32).to_le_bytes());
+        put(buffer, 4, &Kind::SealedSheet.number().to_le_bytes());
+        put(buffer, 6, &grave.to_le_bytes());
+        put(buffer, 8, &draw.to_le_bytes());
+        put(buffer, 16, &seal.to_le_bytes());
+        put(buffer, FIXED_BYTES, text);
+        Ok(size)
     }
-    put(buffer, 0, &((size - 4) as u32).to_le_bytes());
-    put(buffer, 4, &SHEET_KIND.to_le_bytes());
-    put(buffer, 6, &grave.to_le_bytes());
-    put(buffer, 8, &draw.to_le_bytes());
-    put(buffer, 16, &seal.to_le_bytes());
-    put(buffer, FIXED_BYTES, text);
-    Ok(size)
 }
 
 #[cfg(test)]

@@ -1,4 +1,4 @@
-use crate::{Read, Sheet, read_sheet, write_sheet};
+use crate::{Draft, Read, Sheet, read_sheet};
 use refusal::Refusal;
 use std::test::Fail;
 
@@ -7,10 +7,17 @@ const ON_THE_CHIP: [u8; 28] = [
     22, 0, 0, 0, 1, 0, 7, 0, 2, 1, 0, 0, 0, 0, 0, 0, 3, 0, 0, 0, 0, 0, 0, 0, 65, 66, 9, 9,
 ];
 
+const DRAFT: Draft<'static> = Draft {
+    grave: 7,
+    draw: 258,
+    seal: 3,
+    text: &[65, 66],
+};
+
 #[test]
 fn written_byte_for_byte(rt: HostRuntime) {
     let mut buffer = [9; 28];
-    assert_eq!(rt; write_sheet(7, 258, 3, &[65, 66], &mut buffer), Ok(26));
+    assert_eq!(rt; DRAFT.write(&mut buffer), Ok(26));
     assert_eq!(rt; buffer, ON_THE_CHIP);
 }
 
@@ -39,9 +46,6 @@ fn read_part_by_part(rt: HostRuntime) -> Result<(), Fail> {
 #[test]
 fn a_short_buffer_is_left(rt: HostRuntime) {
     let mut buffer = [9; 25];
-    assert_eq!(rt;
-        write_sheet(7, 258, 3, &[65, 66], &mut buffer),
-        Err(Refusal::BufferTooShort)
-    );
+    assert_eq!(rt; DRAFT.write(&mut buffer), Err(Refusal::BufferTooShort));
     assert_eq!(rt; buffer, [9; 25]);
 }

@@ -1,7 +1,7 @@
 // The MAC Chaskey-12, for which test vectors are published: whole blocks go through the rounds, and the last through
 // the cipher, under a key made from the MAC's.
-ghost use Rattle.std.specs.Prelude.{◌≡◌, ◌+◌, ◌/◌, ◌%◌, ◌^◌, ◌<◌};
-ghost use Rattle.vectors.specs.Mac.{doubled, number_of, permuted_number, byte_at, word_at, block_at, subkey_of, mac_of};
+ghost use Rattle.std.specs.Prelude.{◌≡◌, ◌≤◌, length};
+ghost use Rattle.vectors.specs.Mac.{doubled, permuted_number, block_at, subkey_of, mac_of};
 
 use chaskey::{Chaskey, Words, permute};
 use cipher::{Block, Cipher, Key};
@@ -14,68 +14,24 @@ pub fn times_two(a: u128) -> u128
     (a << 1) ^ ((a >> 127) * 0x87)
 }
 
-fn word(number: u128, place: u32) -> u32
-    requires { place < 128 }
-    ensures { result ≡ number / 2 ^ place % 2 ^ 32 }
-{
-    ((number >> place) & 0xffff_ffff) as u32
-}
-
-fn number(v: Words) -> u128
-    ensures { result ≡ number_of v }
-{
-    u128::from(v.v0)
-        + (u128::from(v.v1) << 32)
-        + (u128::from(v.v2) << 64)
-        + (u128::from(v.v3) << 96)
-}
-
 fn permuted(x: u128) -> u128
     ensures { result ≡ permuted_number x }
 {
-    number(permute(Words {
-        v0: word(x, 0),
-        v1: word(x, 32),
-        v2: word(x, 64),
-        v3: word(x, 96),
-    }))
+    let words = permute(Words::from(x.to_le_bytes()));
+    u128::from_le_bytes(words.into())
 }
 
-// A message and, behind it, a byte 1 and zeros.
-fn byte_at(message: &[u8], place: usize) -> u8
-    ensures { result ≡ byte_at message.now place }
+// The block of at most 16 bytes, filled up behind them by a byte 1 and zeros.
+fn block(part: &[u8]) -> u128
+    requires { length part.now ≤ 16 }
+    ensures { result ≡ block_at part.now 0 }
 {
-    if place < message.len() {
-        message[place]
-    } else if place == message.len() {
-        1
-    } else {
-        0
+    let mut bytes = [0; 16];
+    bytes[..part.len()].copy_from_slice(part);
+    if part.len() < 16 {
+        bytes[part.len()] = 1;
     }
-}
-
-fn word_at(message: &[u8], place: usize) -> u32
-    requires { place + 3 < 2 ^ 64 }
-    ensures { result ≡ word_at message.now place }
-{
-    u32::from_le_bytes([
-        byte_at(message, place),
-        byte_at(message, place + 1),
-        byte_at(message, place + 2),
-        byte_at(message, place + 3),
-    ])
-}
-
-fn block_at(message: &[u8], place: usize) -> u128
-    requires { place + 15 < 2 ^ 64 }
-    ensures { result ≡ block_at message.now place }
-{
-    number(Words {
-        v0: word_at(message, place),
-        v1: word_at(message, place + 4),
-        v2: word_at(message, place + 8),
-        v3: word_at(message, place + 12),
-    })
+    u128::from_le_bytes(bytes)
 }
 
 // The key of the last block.
@@ -89,13 +45,15 @@ fn subkey(key: u128, whole: bool) -> u128
 pub fn mac(key: u128, message: &[u8]) -> Block
     ensures { result ≡ mac_of key message.now }
 {
-    let before = message.len().saturating_sub(1) / 16;
-    let mut v = key;
-    for i in 0..before {
-        v = permuted(v ^ block_at(message, 16 * i));
+    let before = 16 * (message.len().saturating_sub(1) / 16);
+    let (front, last) = message.split_at(before);
+    let mut state = key;
+    for part in front.chunks(16) {
+        state = permuted(state ^ block(part));
     }
-    let last = v ^ block_at(message, 16 * before);
-    let whole = message.len() == 16 * before + 16;
-    let key = Key::from_bytes(subkey(key, whole).to_le_bytes());
-    Chaskey.encipher(key, Block::from_bytes(last.to_le_bytes()))
+    let under = Key::from_bytes(subkey(key, last.len() == 16).to_le_bytes());
+    Chaskey.encipher(
+        under,
+        Block::from_bytes((state ^ block(last)).to_le_bytes()),
+    )
 }

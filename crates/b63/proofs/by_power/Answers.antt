@@ -1,9 +1,7 @@
-use mathlib.Core.Path.{◌≡◌, sym, ap, ap₂, ◌∙◌}
-use Prim.Native.Nat.{ℕ, ◌+◌, ◌-◌, ◌*◌, ◌/◌, ◌%◌, ◌^◌}
-use native.Mathlib.Nat.{add-zero, mul-mod_left}
-use native.Mathlib.Omega.{arith}
-use lib.Bits.{bit_and, bit_xor, and_mask}
-use lib.Pow.{shr_le, shl-shr, mod-pow-add, mod-mod-pow}
+use Rattle.std.proofs.Common.{◌≡◌, sym, ap, ap₂, ◌∙◌, ℕ, ◌+◌, ◌-◌, ◌*◌, ◌/◌, ◌%◌, ◌^◌, add-zero, arith, bit_and, bit_xor}
+use Rattle.std.proofs.lemmas.Nat.{and_mask, shr_le, shl-shr, mod-pow-add}
+use Rattle.std.proofs.Math.Nat.{mul-mod_left}
+use Rattle.std.proofs.Math.Pow.{mod-mod-pow}
 use Rattle.b63.proofs.Power.{power_parts}
 use Rattle.b63.proofs.by_power.Goals as goal
 

@@ -1,8 +1,4 @@
-use mathlib.Core.Path.{◌≡◌, refl, ap, ◌∙◌}
-use Prim.Native.Nat.{ℕ, ◌-◌, ◌*◌, ◌/◌, ◌^◌}
-use native.Mathlib.Nat.{div-one}
-use native.Mathlib.Omega.{arith}
-use lib.Dec.{lit<}
+use Rattle.std.proofs.Common.{◌≡◌, refl, ap, ◌∙◌, ℕ, ◌-◌, ◌*◌, ◌/◌, ◌^◌, div-one, arith, lit<}
 use Rattle.b63.specs.Binary.{by_z, rows}
 use Rattle.b63.specs.Product.{rows_lt}
 use Rattle.b63.proofs.Window.{rows_spare}

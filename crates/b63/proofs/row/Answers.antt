@@ -1,8 +1,5 @@
-use mathlib.Core.Path.{◌≡◌, sym, ap, ◌∙◌}
-use Prim.Native.Nat.{ℕ, ◌+◌, ◌-◌, ◌*◌, ◌/◌, ◌%◌, ◌^◌}
-use native.Mathlib.Nat.{zero-mul, one-mul, mod-eq_of_lt}
-use native.Mathlib.Omega.{arith}
-use lib.Bits.{bit_and, and_comm, and_mask}
+use Rattle.std.proofs.Common.{◌≡◌, sym, ap, ◌∙◌, ℕ, ◌+◌, ◌-◌, ◌*◌, ◌/◌, ◌%◌, ◌^◌, zero-mul, one-mul, mod-eq_of_lt, arith, bit_and}
+use Rattle.std.proofs.lemmas.Nat.{and_comm, and_mask}
 use Rattle.b63.specs.Bit.{by_bit}
 use Rattle.b63.proofs.row.Goals as goal
 

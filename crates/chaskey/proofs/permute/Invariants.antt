@@ -1,4 +1,4 @@
-use mathlib.Core.Path.{◌≡◌}
+use Rattle.std.proofs.Common.{◌≡◌}
 use Rattle.chaskey.specs.Chaskey.{rounds_of}
 use Rattle.chaskey.proofs.permute.Given as goal
 

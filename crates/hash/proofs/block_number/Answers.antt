@@ -16,12 +16,6 @@ fits n i few below =
     let p = pow_mono most in
     omega arith
 
-pub overflow_add-number : goal.overflow_add-number
-overflow_add-number c =
-    let i : ℕ = c.loop-i.i in
-    let s = shifted c.loop-i.number c.from.result i c.loop-i.invariant.1 (omega (arith, c.type_inv.block i)) (omega arith) in
-    omega (arith, fits _ (i + 1) (omega arith) s.1)
-
 pub loop-i-preserved : goal.loop-i-preserved
 loop-i-preserved c =
     let i : ℕ = c.loop-i.i in

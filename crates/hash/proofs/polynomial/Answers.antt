@@ -1,24 +1,8 @@
-use Rattle.std.proofs.Common.{◌∙◌, arith, rules}
+use Rattle.std.proofs.Common.{◌∙◌}
 use Rattle.std.specs.Iterator.Adapters.{enumerate_source}
 use Rattle.std.specs.Slice.Iter.{chunks_rest}
-use Rattle.hash.proofs.Horner.{begun, served, turned, ended}
+use Rattle.hash.proofs.Horner.{turned}
 use Rattle.hash.proofs.polynomial.Goals as goal
-
-pub loop-c-init : goal.loop-c-init
-loop-c-init g c = (cc, begun g.met.F.Field.holds (cc) (cc))
-
-pub bounds-ring-c : goal.bounds-ring-c
-bounds-ring-c g c =
-    let step = c.in-Some.ensures.steps in
-    let here = served g.met.F.Field.holds c.loop-c.invariant.1 step.0.1.2 c.requires in
-    omega (arith, step.1)
-
-pub offset_bounds-ring-c : goal.offset_bounds-ring-c
-offset_bounds-ring-c g c =
-    let step = c.in-Some.ensures.steps in
-    let here = served g.met.F.Field.holds c.loop-c.invariant.1 step.0.1.2 c.requires in
-    let same = step.1 in
-    search rules
 
 pub loop-c-preserved : goal.loop-c-preserved
 loop-c-preserved g c =
@@ -29,7 +13,3 @@ loop-c-preserved g c =
           step.0.1.0 step.0.1.1 step.0.1.2 step.1 step.2 c.loop-c.invariant.0
           c.through_chunk-x.ensures.element,
     )
-
-pub returns : goal.returns
-returns g c =
-    record { element = ended g.met.F.Field.holds c.loop-c.invariant.1 c.in-None.ensures.steps.0.1.0 }

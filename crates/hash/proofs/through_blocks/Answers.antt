@@ -1,19 +1,9 @@
 use Rattle.std.proofs.Common.{ℕ, ◌<◌, ◌≤◌, length, sym, ap, ◌∙◌, arith}
 use Rattle.std.specs.Slice.Iter.{chunks_rest}
 use Rattle.hash.specs.Texts.{block_bytes}
-use Rattle.hash.specs.Steps.{through}
 use Rattle.hash.proofs.Horner.{small_own}
-use Rattle.hash.proofs.Steps.{through_one, turned, arrived}
+use Rattle.hash.proofs.Steps.{through_one, turned}
 use Rattle.hash.proofs.through_blocks.Goals as goal
-
-pub loop-block-init : goal.loop-block-init
-loop-block-init g c =
-    let m = g.F.Field.model in
-    let k : ℕ = m.means c.args.subkey in
-    (cc, ap (through m k (m.means c.args.start)) (cc))
-
-pub block_number-requires : goal.block_number-requires
-block_number-requires g c = omega (arith, c.in-Some.ensures.steps.1.1, c.loop-block.invariant.0)
 
 pub loop-block-preserved : goal.loop-block-preserved
 loop-block-preserved g c =
@@ -33,12 +23,3 @@ loop-block-preserved g c =
           (c.sum.ensures.element ∙ ap (m.plus x) (own ∙ c.block_number.ensures.value))
           ∙ sym (through_one m k x piece some short)),
     )
-
-pub returns : goal.returns
-returns g c =
-    let m = g.F.Field.model in
-    record {
-      element =
-          arrived m (m.means c.args.subkey) (chunks_rest c.loop-block.block-iterator) c.loop-block.invariant.1
-          c.in-None.ensures.steps.1.0;
-    }

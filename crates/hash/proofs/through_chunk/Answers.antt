@@ -17,14 +17,3 @@ loop-group-preserved-then-group-eq-GROUP_BYTES g c =
           (c.through_group-x.ensures.element
           ∙ ap (λ (k : ℕ). through m (m.means k) x piece) c.powers-powers.ensures.subkey),
     )
-
-pub loop-group-preserved : goal.loop-group-preserved
-loop-group-preserved g c =
-    let m = g.F.Field.model in
-    let step = c.in-Some.ensures.steps in (
-      step.0 ∙ c.loop-group.invariant.0,
-      turned m (m.means c.args.subkey) (m.means c.loop-group.x) (m.means c.through_blocks-x.result)
-          (chunks_rest c.loop-group.group-iterator) c.in-Some.group.now (chunks_rest c.next.new.self) group_blocks
-          c.loop-group.invariant.1 step.1.0 step.1.1 c.loop-group.invariant.0
-          c.through_blocks-x.ensures.element,
-    )

@@ -1,5 +1,4 @@
-use Rattle.std.proofs.Common.{◌≡◌, ℕ, ◌^◌, ◌<◌, length, ◌∙◌, ap₂, arith, rules}
-use Rattle.std.proofs.lemmas.Result.{IfOk-weaker}
+use Rattle.std.proofs.Common.{◌≡◌, ℕ, length, ◌∙◌, ap₂, arith}
 use Rattle.std.proofs.lemmas.Bool.{ltb-false}
 use Rattle.refusal.specs.Outcomes.{gives, decided}
 use Rattle.refusal.proofs.Decided.{absent}
@@ -9,8 +8,8 @@ use Rattle.seal.specs.Seals.{Subkeys}
 use Rattle.seal.proofs.Subkeys.{hash_from_ring}
 use Rattle.seal.proofs.hash_by_key.Goals as goal
 
-pub returns : goal.returns
-returns g c =
+pub returns-clause-hash : goal.returns-clause-hash
+returns-clause-hash g c =
     let m = g.F.Field.model in
     let f = g.C.Cipher.function c.args.cipher.now in
     let ring = c.write_subkeys.new.ring in
@@ -19,13 +18,6 @@ returns g c =
     let none = absent (text_causes text (length c.args.ring.now)) tt c.in_ok-admit.ensures in
     let enough = ltb-false (length c.args.ring.now) (chunk_count text) none.1.0 in
     let filled : Subkeys m f c.args.key (chunk_count text) ring = λ k h. c.write_subkeys.ensures.ring k (omega arith) in
-    record {
-      hash =
-          c.hash_by_working.ensures.answer
-          ∙ ap₂ (λ (n h : ℕ). decided (text_causes text n) (gives h)) long
-          (hash_from_ring g.met.F.Field.holds f c.args.key ring text (omega arith) filled);
-      below =
-          IfOk-weaker c.hash_by_working.result (λ h. h < m.size) (λ h. h < 2 ^ 63)
-          (λ h small. omega (arith, g.met.F.Field.holds.few)) c.hash_by_working.ensures.below;
-      kept = search rules;
-    }
+    c.hash_by_working.ensures.answer
+    ∙ ap₂ (λ (n h : ℕ). decided (text_causes text n) (gives h)) long
+    (hash_from_ring g.met.F.Field.holds f c.args.key ring text (omega arith) filled)

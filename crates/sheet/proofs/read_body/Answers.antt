@@ -6,33 +6,33 @@ use Rattle.byte_rows.proofs.Fronts.{front_none, front_some}
 use Rattle.sheet.proofs.Bodies.{length_behind, cut_short, whole_body, limits_decide}
 use Rattle.sheet.proofs.read_body.Goals as goal
 
-pub returns-in_default-take_u64 : goal.returns-in_default-take_u64
-returns-in_default-take_u64 c =
+pub returns-in_default-take : goal.returns-in_default-take
+returns-in_default-take c =
     let body = c.args.body.now in
     let draw_on = c.in-Some.after_grave.now in
     let grave = front_some 2 body draw_on c.in-Some.grave c.in-Some.ensures in
-    let few = front_none 8 draw_on c.in_default-take_u64.ensures in
+    let few = front_none 8 draw_on c.in_default-take.ensures in
     cut_short body _ (omega (arith, length_behind grave))
 
-pub returns-in_default-take_u64-2 : goal.returns-in_default-take_u64-2
-returns-in_default-take_u64-2 c =
+pub returns-in_default-take-2 : goal.returns-in_default-take-2
+returns-in_default-take-2 c =
     let body = c.args.body.now in
     let draw_on = c.in-Some.after_grave.now in
-    let seal_on = c.in-Some-take_u64.after_draw.now in
+    let seal_on = c.in-Some-take.after_draw.now in
     let grave = front_some 2 body draw_on c.in-Some.grave c.in-Some.ensures in
-    let draw = front_some 8 draw_on seal_on c.in-Some-take_u64.draw c.in-Some-take_u64.ensures in
-    let few = front_none 8 seal_on c.in_default-take_u64-2.ensures in
+    let draw = front_some 8 draw_on seal_on c.in-Some-take.draw c.in-Some-take.ensures in
+    let few = front_none 8 seal_on c.in_default-take-2.ensures in
     cut_short body _ (omega (arith, length_behind grave, length_behind draw))
 
 pub returns-in_err-check_limits : goal.returns-in_err-check_limits
 returns-in_err-check_limits c =
     let body = c.args.body.now in
     let draw_on = c.in-Some.after_grave.now in
-    let seal_on = c.in-Some-take_u64.after_draw.now in
-    let text = c.in-Some-take_u64-2.text.now in
+    let seal_on = c.in-Some-take.after_draw.now in
+    let text = c.in-Some-take-2.text.now in
     let grave = front_some 2 body draw_on c.in-Some.grave c.in-Some.ensures in
-    let draw = front_some 8 draw_on seal_on c.in-Some-take_u64.draw c.in-Some-take_u64.ensures in
-    let seal = front_some 8 seal_on text c.in-Some-take_u64-2.seal c.in-Some-take_u64-2.ensures in
+    let draw = front_some 8 draw_on seal_on c.in-Some-take.draw c.in-Some-take.ensures in
+    let seal = front_some 8 seal_on text c.in-Some-take-2.seal c.in-Some-take-2.ensures in
     let whole = whole_body grave draw seal in
     let refused = err_from_is_err_and c.from_residual.result c.from_residual.ensures.1 in
     let n : ℕ = number_of c.in_err-check_limits.field-0.0 in

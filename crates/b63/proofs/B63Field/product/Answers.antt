@@ -1,14 +1,8 @@
-use mathlib.Core.Path.{◌≡◌, ap₂, ◌∙◌}
-use Prim.Native.Nat.{ℕ}
-use native.Mathlib.Nat.{lt_of_le_of_lt, mod-lt, mod-eq_of_lt}
-use lib.Dec.{lit<}
-use lib.Bits.{and_le_r, and_mask}
+use Rattle.std.proofs.Common.{◌≡◌, ap₂, ◌∙◌, ℕ, mod-lt, mod-eq_of_lt, lit<}
+use Rattle.std.proofs.lemmas.Nat.{and_mask}
 use Rattle.b63.specs.Binary.{means63, times63, Remainder}
 use Rattle.b63.proofs.Remainder.{remainder63}
 use Rattle.b63.proofs.B63Field.product.Goals as goal
-
-pub multiply-requires : goal.multiply-requires
-multiply-requires c = (lt_of_le_of_lt (and_le_r _ _) (lit< tt), lt_of_le_of_lt (and_le_r _ _) (lit< tt))
 
 pub returns : goal.returns
 returns c =

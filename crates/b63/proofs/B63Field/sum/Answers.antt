@@ -1,4 +1,4 @@
-use lib.Bits.{xor_mod}
+use Rattle.std.proofs.lemmas.Nat.{xor_mod}
 use Rattle.b63.proofs.B63Field.sum.Goals as goal
 
 pub returns : goal.returns

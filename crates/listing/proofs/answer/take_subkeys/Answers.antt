@@ -9,16 +9,14 @@ loop-place-init c = begun c.args.bytes.now c.args.ring.now
 
 pub loop-place-preserved : goal.loop-place-preserved
 loop-place-preserved c =
-    turned c.in-Some.subkey c.in-Some.more.now c.loop-place.invariant (omega arith)
-    (front_some 8 c.loop-place.rest.now c.in-Some.more.now c.in-Some.subkey c.in-Some.ensures)
+    turned c.in_ok-subkey.subkey c.in_ok-subkey.more.now c.loop-place.invariant (omega arith)
+    (front_some 8 c.loop-place.rest.now c.in_ok-subkey.more.now c.in_ok-subkey.subkey c.in_ok-subkey.ensures)
 
-pub returns-in_default : goal.returns-in_default
-returns-in_default c =
-    record {
-      rest = stopped (length c.args.ring.now) c.loop-place.invariant (omega arith)
-          (front_none 8 c.loop-place.rest.now c.in_default.ensures);
-      ring = λ never. absurd (false≢true never);
-    }
+pub returns-in_err-subkey : goal.returns-in_err-subkey
+returns-in_err-subkey c =
+    let missing = stopped (length c.args.ring.now) c.loop-place.invariant (omega arith)
+    (front_none 8 c.loop-place.rest.now c.in_err-subkey.ensures) in
+    rw c.from_residual.ensures record { rest = missing; ring = λ never. absurd (false≢true never) }
 
 pub returns : goal.returns
 returns c =

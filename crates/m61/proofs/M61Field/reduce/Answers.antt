@@ -1,6 +1,0 @@
-use Rattle.std.proofs.Common.{◌∙◌}
-use Rattle.m61.proofs.Folding.{carried}
-use Rattle.m61.proofs.M61Field.reduce.Goals as goal
-
-pub returns : goal.returns
-returns c = carried c.fold-y.result c.fold-y.ensures.small ∙ c.fold-y.ensures.same

@@ -1,80 +1,35 @@
--- A call of the script, made at the desk of the current book. Assumes nothing.
-use Rattle.std.specs.Prelude.{◌≡◌, ℕ, [], Some, None, Ok, Err, Option, Result, MatchOption}
-use Rattle.std.specs.declared.alloc.AllocError.{AllocError}
-use Rattle.refusal.specs.declared.Refusal.{Refusal}
-use Rattle.cipher.specs.declared.Block.{Block}
-use Rattle.cipher.specs.declared.Key.{Key}
-use Rattle.field.specs.Model.{Model}
+-- The desk of a book, over the field and the cipher that its line named. Assumes nothing.
+use Rattle.std.specs.Prelude.{[]}
 use Rattle.m61.specs.Mersenne.{m61}
 use Rattle.b63.specs.Binary.{b63}
-use Rattle.noekeon.specs.Noekeon.{noekeon}
-use Rattle.chaskey.specs.Chaskey.{chaskey}
+use Rattle.ciphers.specs.declared.CipherName.{CipherName}
+use Rattle.ciphers.specs.Ciphers.{function_of}
+use Rattle.fields.specs.declared.FieldName.{FieldName}
+use Rattle.fields.specs.declared.FieldName.TheVariants.{M61, B63}
+use Rattle.fields.specs.Names.{model_of}
 use Rattle.seal.specs.Seals.{sealing}
-use Rattle.promise.specs.History.{to_open, to_check, to_clear, to_close}
 use Rattle.promise.specs.Records.{new}
-use Rattle.book.specs.declared.calls.Account.{Account}
-use Rattle.graves.specs.declared.turns.Standing.{Standing}
-use Rattle.graves.specs.Checks.{checked_told}
-use Rattle.book.specs.Calls.{plain_told, account_told, tell_outcome, Owing}
-use Rattle.desk.specs.Desks.{State, state, PassedOn, Drawn, Sealed, Voided, Absent}
-use Rattle.script.specs.declared.names.CipherName.{CipherName}
-use Rattle.script.specs.declared.names.CipherName.TheVariants.{Noekeon, Chaskey}
-use Rattle.script.specs.declared.names.FieldName.{FieldName}
-use Rattle.script.specs.declared.names.FieldName.TheVariants.{M61, B63}
-use Rattle.script.specs.Lines.{Ask, open_it, draw_it, seal_it, void_it, check_it, clear_it, close_it, tell_it, owing}
-use Rattle.day.specs.declared.answer.Answer.{Answer}
-use Rattle.day.specs.declared.answer.Answer.TheVariants as is
+use Rattle.desk.specs.Desks.{State, state}
 use Rattle.day.specs.declared.office.Office.{Office}
 use Rattle.day.specs.declared.office.Office.TheVariants as over
-use Rattle.day.specs.Replies.{plain_answer, drawn, sealed, voided, checked, accounted}
 
--- the call was made at desk d with a ring of p places, and left d'; the answer is what the desk told
-abbrev pub Made : State → Ask → ℕ → Answer → State → Type 0
-Made d (open_it g k) p a d' =
-    (r : Result (Unit {0}) Refusal) × (a ≡ plain_answer r) × PassedOn d (to_open g k) (plain_told r) d'
-Made d (draw_it g) p a d' = (r : Result ℕ Refusal) × (a ≡ drawn r) × Drawn d g r d'
-Made d (seal_it g n x) p a d' =
-    (r : Option (Result ℕ Refusal)) × (a ≡ sealed r) × MatchOption r (Absent d g n d') (λ t. Sealed d g n x p t d')
-Made d (void_it g n) p a d' =
-    (r : Option (Result (Unit {0}) Refusal)) × (a ≡ voided r) × MatchOption r (Absent d g n d') (λ t. Voided d g n t d')
-Made d (check_it g n x s) p a d' =
-    (r : Result Standing Refusal)
-    × (a ≡ checked r)
-    × PassedOn d (to_check g (record { draw = n; text = x; seal = s }) p) (checked_told r) d'
-Made d (clear_it g) p a d' =
-    (r : Result (Unit {0}) Refusal) × (a ≡ plain_answer r) × PassedOn d (to_clear g) (plain_told r) d'
-Made d (close_it g) p a d' =
-    (r : Result (Unit {0}) Refusal) × (a ≡ plain_answer r) × PassedOn d (to_close g) (plain_told r) d'
-Made d (tell_it g) p a d' =
-    (r : Result Account Refusal)
-    × (a ≡ accounted r)
-    × (account_told r ≡ tell_outcome d.table g)
-    × (d' ≡ d)
-Made d owing p a d' = (r : Option ℕ) × (a ≡ is.Owing r) × Owing d.table r × (d' ≡ d)
+-- what is there of an office: a desk's state, its field and its cipher by name
+abbrev pub DeskState : Type 0
+DeskState = State FieldName CipherName
 
--- the desk of the current book, if there is one
-abbrev pub desk_of : Office → Option State
-desk_of over.NoBook = None
-desk_of (over.M61Noekeon d) = Some (state m61 (λ _. noekeon) d)
-desk_of (over.M61Chaskey d) = Some (state m61 (λ _. chaskey) d)
-desk_of (over.B63Noekeon d) = Some (state b63 (λ _. noekeon) d)
-desk_of (over.B63Chaskey d) = Some (state b63 (λ _. chaskey) d)
+abbrev pub named : {F C : Type 0} → FieldName → State F C → State FieldName C
+named f d = record {
+  book = record { field = f; cipher = d.book.cipher; sealing = d.book.sealing; table = d.book.table };
+  hand = d.hand;
+}
 
-abbrev pub the_field : FieldName → Model
-the_field M61 = m61
-the_field B63 = b63
-
-abbrev pub the_cipher : CipherName → Key → Block → Block
-the_cipher Noekeon = noekeon
-the_cipher Chaskey = chaskey
+abbrev pub desk_of : Office → DeskState
+desk_of (over.M61 d) = named M61 (state m61 function_of d)
+desk_of (over.B63 d) = named B63 (state b63 function_of d)
 
 -- a new book, and no draw in hand
-abbrev pub new_desk : FieldName → CipherName → State
-new_desk f c = record { sealing = sealing (the_field f) (the_cipher c); table = new; hand = [] }
-
--- a call at the current desk; without memory nothing changes
-abbrev pub Ran : Option State → Ask → ℕ → Result Answer AllocError → Option State → Type 0
-Ran None q p (Ok a) o = (a ≡ is.NoBook) × (o ≡ None)
-Ran None q p (Err e) o = o ≡ None
-Ran (Some d) q p (Ok a) o = (d' : State) × (o ≡ Some d') × Made d q p a d'
-Ran (Some d) q p (Err e) o = o ≡ Some d
+abbrev pub new_desk : FieldName → CipherName → DeskState
+new_desk f c = record {
+  book = record { field = f; cipher = c; sealing = sealing (model_of f) (function_of c); table = new };
+  hand = [];
+}

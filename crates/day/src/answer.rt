@@ -1,5 +1,9 @@
 // What a line answers, and how it prints.
-use book::{Account, Standing, State};
+ghost use Rattle.std.specs.Prelude.{Some};
+ghost use Rattle.day.specs.Printing.{printed};
+
+use crate::shown::Shown;
+use book::{Account, Standing};
 use refusal::Refusal;
 use script::Reason;
 use std::fmt;
@@ -20,27 +24,9 @@ pub enum Answer {
     NotACall(Reason),
 }
 
-fn show_account<W: fmt::Write>(account: &Account, f: &mut fmt::Formatter<W>) -> fmt::Result {
-    match account.state {
-        State::Free => write!(f, "free")?,
-        State::Open { false_seals } => write!(f, "open {false_seals}")?,
-        State::Locked => write!(f, "locked")?,
-        State::Closed => write!(f, "closed")?,
-    }
-    let sealed = account.sealed;
-    let voided = account.voided;
-    let held = account.held;
-    write!(
-        f,
-        ", sealed {sealed}, voided {voided}, held {held}, current "
-    )?;
-    match account.current {
-        Some(draw) => write!(f, "{draw}"),
-        None => write!(f, "none"),
-    }
-}
-
 impl fmt::Display for Answer {
+    ghost output = { λ a. Some (printed a) };
+
     fn fmt<W: fmt::Write>(&self, f: &mut fmt::Formatter<W>) -> fmt::Result {
         match self {
             Answer::Done => write!(f, "ok"),
@@ -49,9 +35,21 @@ impl fmt::Display for Answer {
             Answer::Standing(Standing::Current) => write!(f, "current"),
             Answer::Standing(Standing::Superseded) => write!(f, "superseded"),
             Answer::Refused(refusal) => write!(f, "{refusal}"),
-            Answer::Account(account) => show_account(account, f),
-            Answer::Owing(Some(grave)) => write!(f, "owing {grave}"),
-            Answer::Owing(None) => write!(f, "owing none"),
+            Answer::Account(account) => {
+                let Account {
+                    state,
+                    sealed,
+                    voided,
+                    held,
+                    current,
+                } = *account;
+                let (state, current) = (Shown(state), Shown(current));
+                write!(
+                    f,
+                    "{state}, sealed {sealed}, voided {voided}, held {held}, current {current}"
+                )
+            }
+            Answer::Owing(grave) => write!(f, "owing {}", Shown(*grave)),
             Answer::NotInHand => write!(f, "not in hand"),
             Answer::NoBook => write!(f, "not a call: no book is begun yet"),
             Answer::NotACall(reason) => write!(f, "not a call: {reason}"),

@@ -2,87 +2,37 @@
 ghost use Rattle.std.specs.Prelude.{◌≡◌, length, MatchResult};
 ghost use Rattle.desk.specs.Desks.{state};
 ghost use Rattle.script.specs.Lines.{asked};
-ghost use Rattle.day.specs.Offices.{Made};
-ghost use Rattle.day.specs.Replies as reply;
+ghost use Rattle.day.specs.Calls.{Made, Left};
 
 use crate::answer::Answer;
-use book::{Account, Claim, Standing};
+use crate::call_error::CallError;
+use book::Claim;
 use desk::Desk;
-use refusal::Refusal;
 use script::Call;
 use seal::{Cipher, Field};
 use std::alloc::AllocError;
 
-fn plain(told: Result<(), Refusal>) -> Answer
-    ensures { result ≡ reply.plain_answer told }
-{
-    match told {
-        Ok(()) => Answer::Done,
-        Err(refusal) => Answer::Refused(refusal),
-    }
-}
-
-fn drawn(told: Result<u64, Refusal>) -> Answer
-    ensures { result ≡ reply.drawn told }
-{
-    match told {
-        Ok(number) => Answer::Drawn(number),
-        Err(refusal) => Answer::Refused(refusal),
-    }
-}
-
-fn sealed(told: Option<Result<u64, Refusal>>) -> Answer
-    ensures { result ≡ reply.sealed told }
-{
-    match told {
-        None => Answer::NotInHand,
-        Some(Ok(seal)) => Answer::Sealed(seal),
-        Some(Err(refusal)) => Answer::Refused(refusal),
-    }
-}
-
-fn voided(told: Option<Result<(), Refusal>>) -> Answer
-    ensures { result ≡ reply.voided told }
-{
-    match told {
-        None => Answer::NotInHand,
-        Some(told) => plain(told),
-    }
-}
-
-fn checked(told: Result<Standing, Refusal>) -> Answer
-    ensures { result ≡ reply.checked told }
-{
-    match told {
-        Ok(standing) => Answer::Standing(standing),
-        Err(refusal) => Answer::Refused(refusal),
-    }
-}
-
-fn accounted(told: Result<Account, Refusal>) -> Answer
-    ensures { result ≡ reply.accounted told }
-{
-    match told {
-        Ok(account) => Answer::Account(account),
-        Err(refusal) => Answer::Refused(refusal),
-    }
-}
-
-// The answer to a call that is made at the desk. The only error is want of memory, and then nothing changed.
-pub fn run_call<F: Field, C: Cipher>(
+// What the desk gives for the call, or why the call is not done.
+fn make_call<F: Field, C: Cipher>(
     desk: &mut Desk<F, C>,
     call: Call,
     ring: &mut [u64],
-) -> Result<Answer, AllocError>
-    ensures { MatchResult result (λ a. Made (state F.Field.model C.Cipher.function desk.old) (asked call) (length ring.old) a (state F.Field.model C.Cipher.function desk.new)) (λ _. state F.Field.model C.Cipher.function desk.new ≡ state F.Field.model C.Cipher.function desk.old) }
+) -> Result<Answer, CallError>
+    ensures { Left (state F.Field.model C.Cipher.function desk.old) (asked call) (length ring.old) result (state F.Field.model C.Cipher.function desk.new) }
 {
-    match call {
-        Call::Open { grave, key } => Ok(plain(desk.open(grave, key))),
-        Call::Draw { grave } => Ok(drawn(desk.draw(grave)?)),
-        Call::Seal { grave, draw, text } => {
-            Ok(sealed(desk.seal(grave, draw, text.as_slice(), ring)))
+    Ok(match call {
+        Call::Open { grave, key } => {
+            desk.open(grave, key)?;
+            Answer::Done
         }
-        Call::Void { grave, draw } => Ok(voided(desk.void(grave, draw))),
+        Call::Draw { grave } => Answer::Drawn(desk.draw(grave)?),
+        Call::Seal { grave, draw, text } => {
+            Answer::Sealed(desk.seal(grave, draw, text.as_slice(), ring)?)
+        }
+        Call::Void { grave, draw } => {
+            desk.void(grave, draw)?;
+            Answer::Done
+        }
         Call::Check {
             grave,
             draw,
@@ -94,11 +44,33 @@ pub fn run_call<F: Field, C: Cipher>(
                 text: text.as_slice(),
                 seal,
             };
-            Ok(checked(desk.check(grave, claim, ring)))
+            Answer::Standing(desk.check(grave, claim, ring)?)
         }
-        Call::Clear { grave } => Ok(plain(desk.clear(grave))),
-        Call::Close { grave } => Ok(plain(desk.close(grave))),
-        Call::Tell { grave } => Ok(accounted(desk.tell(grave))),
-        Call::Owing => Ok(Answer::Owing(desk.owing())),
+        Call::Clear { grave } => {
+            desk.clear(grave)?;
+            Answer::Done
+        }
+        Call::Close { grave } => {
+            desk.close(grave)?;
+            Answer::Done
+        }
+        Call::Tell { grave } => Answer::Account(desk.tell(grave)?),
+        Call::Owing => Answer::Owing(desk.owing()),
+    })
+}
+
+// The answer to a call that is made at the desk. The only error is want of memory, and then nothing changed.
+pub fn run_call<F: Field, C: Cipher>(
+    desk: &mut Desk<F, C>,
+    call: Call,
+    ring: &mut [u64],
+) -> Result<Answer, AllocError>
+    ensures { MatchResult result (λ a. Made (state F.Field.model C.Cipher.function desk.old) (asked call) (length ring.old) a (state F.Field.model C.Cipher.function desk.new)) (λ _. state F.Field.model C.Cipher.function desk.new ≡ state F.Field.model C.Cipher.function desk.old) }
+{
+    match make_call(desk, call, ring) {
+        Ok(answer) => Ok(answer),
+        Err(CallError::NotInHand) => Ok(Answer::NotInHand),
+        Err(CallError::Refused(refusal)) => Ok(Answer::Refused(refusal)),
+        Err(CallError::Memory) => Err(AllocError),
     }
 }

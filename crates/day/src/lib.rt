@@ -1,18 +1,20 @@
 // An office's day: the lines of a script, each run as a call on a book, and their answers.
 #![tactic(auto)]
 
-ghost use Rattle.std.specs.Prelude.{◌≡◌, min, Some, None, MatchResult};
+ghost use Rattle.std.specs.Prelude.{◌≡◌, Some, None, MatchResult};
 ghost use Rattle.script.specs.Lines.{asked, says};
-ghost use Rattle.day.specs.Offices.{desk_of, new_desk, Ran};
-ghost use Rattle.day.specs.Days.{now_at, Answered};
+ghost use Rattle.day.specs.Offices.{new_desk};
+ghost use Rattle.day.specs.Days.{now_at, Ran, Answered};
 
 use crate::office::Office;
-use script::{Call, CipherName, Fault, FieldName, Line, MOST_PLACES, read_line};
+use script::{Call, CipherName, Fault, FieldName, Line, MOST_PLACES, Places, read_line};
 use std::alloc::{AllocError, Global};
 
 mod answer;
+mod call_error;
 mod calls;
 mod office;
+mod shown;
 
 pub use answer::Answer;
 
@@ -20,8 +22,9 @@ pub use answer::Answer;
 const FIRST_PLACES: usize = 8;
 
 pub struct Day {
-    office: Office,
-    places: usize,
+    // None before the first book
+    office: Option<Office>,
+    places: Places,
 }
 
 impl Day {
@@ -30,8 +33,10 @@ impl Day {
         ensures { now_at result ≡ record { desk = None; places = 8 } }
     {
         Day {
-            office: Office::NoBook,
-            places: FIRST_PLACES,
+            office: None,
+            places: Places {
+                count: FIRST_PLACES,
+            },
         }
     }
 
@@ -58,24 +63,28 @@ impl Day {
 
     // A new book; the draws of the one before are voided, and that book ends.
     fn begin(&mut self, heap: Global, field: FieldName, cipher: CipherName)
-        ensures { now_at self.new ≡ record { desk = Some (new_desk field cipher); places = self.old.places } }
+        ensures { now_at self.new ≡ record { desk = Some (new_desk field cipher); places = self.old.places.count } }
     {
-        let before = std::mem::replace(&mut self.office, Office::begin(heap, field, cipher));
-        before.end();
+        if let Some(before) = self.office.replace(Office::begin(heap, field, cipher)) {
+            before.end();
+        }
     }
 
     fn run(&mut self, call: Call) -> Result<Answer, AllocError>
-        ensures ran { Ran (desk_of self.old.office) (asked call) (min self.old.places 64) result (desk_of self.new.office) }
-        ensures places { self.new.places ≡ self.old.places }
+        ensures { Ran (now_at self.old) (asked call) result (now_at self.new) }
     {
         let mut ring = [0; MOST_PLACES];
-        let places = self.places.min(MOST_PLACES);
-        self.office.run(call, &mut ring[0..places])
+        match &mut self.office {
+            Some(office) => office.run(call, &mut ring[..self.places.count]),
+            None => Ok(Answer::NoBook),
+        }
     }
 
     // Voids the draws still in hand.
     pub fn end(self) {
         let Day { office, places: _ } = self;
-        office.end();
+        if let Some(office) = office {
+            office.end();
+        }
     }
 }

@@ -1,5 +1,4 @@
 mod Numbered
-mod Worded
 mod Texts
 mod Paired
 mod Hearing

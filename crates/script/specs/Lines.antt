@@ -1,9 +1,8 @@
 -- What a line says: its first word names the call, and the parts behind it are the call's, in order. Assumes nothing.
-use Rattle.std.specs.Prelude.{ℕ, Bool, cond, ◌||◌, List, Some, None, Ok, Err, vec_items, Option, Result, ◌==◌, slice_index}
-use Rattle.std.specs.Borrow.{Bor}
+use Rattle.std.specs.Prelude.{ℕ, Bool, cond, ◌||◌, List, Ok, Err, vec_items, Result, ◌==◌, slice_index}
 use Rattle.cipher.specs.declared.Key.{Key}
-use Rattle.script.specs.declared.names.CipherName.{CipherName}
-use Rattle.script.specs.declared.names.FieldName.{FieldName}
+use Rattle.ciphers.specs.declared.CipherName.{CipherName}
+use Rattle.fields.specs.declared.FieldName.{FieldName}
 use Rattle.script.specs.declared.names.Name.{Name}
 use Rattle.script.specs.declared.names.Name.TheVariants as to
 use Rattle.script.specs.declared.line.Call.{Call}
@@ -12,9 +11,8 @@ use Rattle.script.specs.declared.line.Line.{Line}
 use Rattle.script.specs.declared.line.Line.TheVariants as line
 use Rattle.script.specs.declared.reason.Reason.{Reason}
 use Rattle.script.specs.declared.reason.Reason.TheVariants as is
-use Rattle.script.specs.Names.{name_of}
-use Rattle.script.specs.Parts.{Part, field_part, cipher_part, places_part, grave_part, draw_part, key_part}
-use Rattle.script.specs.Parts.{seal_part, text_part, word_part}
+use Rattle.script.specs.Parts.{Part, name_part, field_part, cipher_part, places_part, grave_part, draw_part, key_part}
+use Rattle.script.specs.Parts.{seal_part, text_part}
 use Rattle.std.specs.Str.{trim}
 use Rattle.script.specs.Words.{skipped, is_empty}
 
@@ -51,12 +49,8 @@ asked call.Owing = owing
 abbrev pub said : Line → Said
 said line.Blank = nothing
 said (line.Book f c) = a_book f c
-said (line.Ring n) = a_ring n
+said (line.Ring p) = a_ring p.count
 said (line.Call c) = a_call (asked c)
-
-abbrev pub seen_line : Result (Line × Bor (List ℕ)) Reason → Part Said
-seen_line (Ok p) = Ok (said p.0, p.1.now)
-seen_line (Err w) = Err w
 
 -- a part, and then what comes behind it
 abbrev pub then : {A B : Type 0} → Part A → (A → List ℕ → Part B) → Part B
@@ -82,13 +76,6 @@ form to.Close s = then (grave_part s) (λ g e. Ok (a_call (close_it g), e))
 form to.Tell s = then (grave_part s) (λ g e. Ok (a_call (tell_it g), e))
 form to.Owing s = Ok (a_call owing, s)
 
-abbrev pub formed : Option Name → List ℕ → Part Said
-formed None s = Err is.UnknownWord
-formed (Some n) s = form n s
-
-abbrev pub by_name : Part (List ℕ) → Part Said
-by_name p = then p (λ w rest. formed (name_of w) rest)
-
 -- nothing but white space may be left
 abbrev pub whole : Part Said → Result Said Reason
 whole (Ok p) = cond (is_empty (skipped p.1)) (Ok p.0) (Err is.WordsTooMany)
@@ -100,7 +87,7 @@ blank_line s = is_empty s || slice_index s 0 == 35
 
 -- what a line says that no white space surrounds
 abbrev pub says_bare : List ℕ → Result Said Reason
-says_bare s = cond (blank_line s) (Ok nothing) (whole (by_name (word_part s)))
+says_bare s = cond (blank_line s) (Ok nothing) (whole (then (name_part s) form))
 
 unfoldable pub says : List ℕ → Result Said Reason
 says s = says_bare (trim s)

@@ -1,19 +1,8 @@
--- The words that name a field, a cipher or a call. Assumes nothing.
+-- The words that name a call. Assumes nothing.
 use Rattle.std.specs.Prelude.{ℕ, cond, List, Some, None, codes, Option}
 use Rattle.std.specs.Str.{bytes_eq}
-use Rattle.script.specs.declared.names.CipherName.{CipherName}
-use Rattle.script.specs.declared.names.CipherName.TheVariants.{Noekeon, Chaskey}
-use Rattle.script.specs.declared.names.FieldName.{FieldName}
-use Rattle.script.specs.declared.names.FieldName.TheVariants.{M61, B63}
 use Rattle.script.specs.declared.names.Name.{Name}
 use Rattle.script.specs.declared.names.Name.TheVariants as to
-
-abbrev pub field_called : List ℕ → Option FieldName
-field_called w = cond (bytes_eq w (codes "m61")) (Some M61) (cond (bytes_eq w (codes "b63")) (Some B63) None)
-
-abbrev pub cipher_called : List ℕ → Option CipherName
-cipher_called w =
-    cond (bytes_eq w (codes "noekeon")) (Some Noekeon) (cond (bytes_eq w (codes "chaskey")) (Some Chaskey) None)
 
 abbrev pub name_of : List ℕ → Option Name
 name_of w =

@@ -1,5 +1,5 @@
 -- The numbers that words write, in a radix. Assumes nothing.
-use Rattle.std.specs.Prelude.{ℕ, ◌^◌, Bool, true, cond, not, ◌&&◌, List, [], ◌∷◌, length, Some, None, Option, ◌==◌, nat_le, nat_lt, slice_index}
+use Rattle.std.specs.Prelude.{ℕ, ◌^◌, Bool, true, cond, not, ◌&&◌, List, [], ◌∷◌, length, Some, None, Option, ◌==◌, nat_lt, slice_index}
 use Rattle.std.specs.Str.Parse.{digits_value, without_leading_plus}
 use Rattle.std.specs.Char.{digit_value}
 use Rattle.cipher.specs.declared.Key.{Key}
@@ -21,14 +21,6 @@ writes_number k radix ds = (nat_lt 0 (length ds) && all_digits radix ds) && nat_
 -- the number of k bits that a word writes; a plus may stand in front
 unfoldable pub number : ℕ → ℕ → List ℕ → Option ℕ
 number k radix w = when (writes_number k radix (without_leading_plus w)) (digits_value radix (without_leading_plus w))
-
--- at most 64
-abbrev pub few : Option ℕ → Option ℕ
-few None = None
-few (Some n) = when (nat_le n 64) n
-
-unfoldable pub places_of : List ℕ → Option ℕ
-places_of w = few (number 64 10 w)
 
 -- just n hexadecimal digits
 abbrev pub exact : ℕ → List ℕ → Bool

@@ -1,29 +1,22 @@
 -- The parts of a line: each stands at the front, and the others behind it. Assumes nothing.
-use Rattle.std.specs.Prelude.{ℕ, cond, List, [], ◌∷◌, Some, None, Ok, Err, codes, Option, Result, ◌==◌}
-use Rattle.std.specs.Borrow.{Bor}
+use Rattle.std.specs.Prelude.{◌≡◌, ℕ, cond, List, [], ◌∷◌, Some, None, Ok, Err, codes, Option, Result, ◌==◌, nat_le}
 use Rattle.std.specs.Str.{bytes_eq}
 use Rattle.cipher.specs.declared.Key.{Key}
-use Rattle.script.specs.declared.names.CipherName.{CipherName}
-use Rattle.script.specs.declared.names.FieldName.{FieldName}
+use Rattle.ciphers.specs.declared.CipherName.{CipherName}
+use Rattle.ciphers.specs.Ciphers.{cipher_spelled}
+use Rattle.fields.specs.declared.FieldName.{FieldName}
+use Rattle.fields.specs.Names.{field_spelled}
+use Rattle.script.specs.declared.names.Name.{Name}
 use Rattle.script.specs.declared.reason.Reason.{Reason}
 use Rattle.script.specs.declared.reason.Reason.TheVariants as is
 use Rattle.script.specs.Digits.{pairs}
-use Rattle.script.specs.Names.{field_called, cipher_called}
-use Rattle.script.specs.Numbers.{number, places_of, the_seal_of, key_named}
+use Rattle.script.specs.Names.{name_of}
+use Rattle.script.specs.Numbers.{number, the_seal_of, key_named}
 use Rattle.script.specs.Words.{skipped, has, before, behind, is_empty, word, after_word}
 
 -- a part's value and what is behind it, or why it cannot be read
 abbrev pub Part : Type 0 → Type 0
 Part A = Result (A × List ℕ) Reason
-
--- the part that the code read, its reference seen through
-abbrev pub seen : {A : Type 0} → Result (A × Bor (List ℕ)) Reason → Part A
-seen (Ok p) = Ok (p.0, p.1.now)
-seen (Err w) = Err w
-
-abbrev pub seen_words : Result (Bor (List ℕ) × Bor (List ℕ)) Reason → Part (List ℕ)
-seen_words (Ok p) = Ok (p.0.now, p.1.now)
-seen_words (Err w) = Err w
 
 -- a word
 unfoldable pub word_part : List ℕ → Part (List ℕ)
@@ -38,14 +31,27 @@ abbrev pub by_word : {A : Type 0} → (List ℕ → Option A) → Reason → Par
 by_word f why (Ok p) = given (f p.0) why p.1
 by_word f why (Err w) = Err w
 
+-- where f is what a reader tells of each word, a part is read by f
+abbrev pub ReadBy : {A : Type 0} → (List ℕ → Option A → Type 0) → Reason → Part (List ℕ) → Part A → Type 0
+ReadBy {A} Tells why at_front part =
+    (f : List ℕ → Option A) → ((w : List ℕ) (v : Option A) → Tells w v → v ≡ f w) → part ≡ by_word f why at_front
+
+unfoldable pub name_part : List ℕ → Part Name
+name_part s = by_word name_of is.UnknownWord (word_part s)
+
 unfoldable pub field_part : List ℕ → Part FieldName
-field_part s = by_word field_called is.NotAField (word_part s)
+field_part s = by_word field_spelled is.NotAField (word_part s)
 
 unfoldable pub cipher_part : List ℕ → Part CipherName
-cipher_part s = by_word cipher_called is.NotACipher (word_part s)
+cipher_part s = by_word cipher_spelled is.NotACipher (word_part s)
+
+-- at most 64
+abbrev pub few : Part ℕ → Part ℕ
+few (Ok p) = cond (nat_le p.0 64) (Ok p) (Err is.NotARing)
+few (Err w) = Err w
 
 unfoldable pub places_part : List ℕ → Part ℕ
-places_part s = by_word places_of is.NotARing (word_part s)
+places_part s = few (by_word (number 64 10) is.NotARing (word_part s))
 
 unfoldable pub grave_part : List ℕ → Part ℕ
 grave_part s = by_word (number 16 10) is.NotAGrave (word_part s)

@@ -1,5 +1,6 @@
 -- The words of a line: they end at spaces. Assumes nothing.
-use Rattle.std.specs.Prelude.{ℕ, Bool, false, cond, ◌||◌, List, [], ◌∷◌, length, ◌==◌}
+use Rattle.std.specs.Prelude.{ℕ, Bool, List, length, ◌==◌, nat_lt}
+use Rattle.std.specs.List.{position_or_len, before_first, after_first}
 use Rattle.std.specs.Str.{trim_start}
 
 -- without the white space in front
@@ -8,16 +9,13 @@ skipped s = trim_start s
 
 -- whether the byte c is there, what stands before the first c, and what behind it
 abbrev pub has : ℕ → List ℕ → Bool
-has c [] = false
-has c (x ∷ xs) = x == c || has c xs
+has c s = nat_lt (position_or_len (λ x. x == c) s) (length s)
 
 abbrev pub before : ℕ → List ℕ → List ℕ
-before c [] = []
-before c (x ∷ xs) = cond (x == c) [] (x ∷ before c xs)
+before c s = before_first (λ x. x == c) s
 
 abbrev pub behind : ℕ → List ℕ → List ℕ
-behind c [] = []
-behind c (x ∷ xs) = cond (x == c) xs (behind c xs)
+behind c s = after_first (λ x. x == c) s
 
 abbrev pub is_empty : List ℕ → Bool
 is_empty s = length s == 0

@@ -11,6 +11,7 @@ pub enum Fault {
     NotACall(Reason),
 }
 
+// The conversions are written out: a derived one has no contract, and clauses name the error that `?` makes.
 impl From<AllocError> for Fault {
     ghost from_gives = { λ _ f. f ≡ Memory };
 

@@ -2,14 +2,16 @@
 #![tactic(auto)]
 
 mod fault;
+mod hex;
 mod line;
 mod names;
-mod parts;
+mod places;
 mod reason;
-mod text;
+mod words;
 
+pub use ciphers::CipherName;
 pub use fault::Fault;
+pub use fields::FieldName;
 pub use line::{Call, Line, read_line};
-pub use names::{CipherName, FieldName};
-pub use parts::MOST_PLACES;
+pub use places::{MOST_PLACES, Places};
 pub use reason::Reason;

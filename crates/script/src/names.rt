@@ -1,18 +1,9 @@
-// The words that name a call, a field or a cipher.
+// The words that name a call.
 ghost use Rattle.std.specs.Prelude.{◌≡◌};
-ghost use Rattle.script.specs.Names.{field_called, cipher_called, name_of};
+ghost use Rattle.std.specs.Result.{result_ok};
+ghost use Rattle.script.specs.Names.{name_of};
 
-#[derive(Clone, Copy)]
-pub enum FieldName {
-    M61,
-    B63,
-}
-
-#[derive(Clone, Copy)]
-pub enum CipherName {
-    Noekeon,
-    Chaskey,
-}
+use std::str::FromStr;
 
 // The first word of a line.
 #[derive(Clone, Copy)]
@@ -30,41 +21,29 @@ pub enum Name {
     Owing,
 }
 
-pub fn field_of(word: &str) -> Option<FieldName>
-    ensures { result ≡ field_called word.now }
-{
-    match word {
-        "m61" => Some(FieldName::M61),
-        "b63" => Some(FieldName::B63),
-        _ => None,
-    }
-}
+// A word that names no call.
+#[derive(Clone, Copy)]
+pub struct UnknownName;
 
-pub fn cipher_of(word: &str) -> Option<CipherName>
-    ensures { result ≡ cipher_called word.now }
-{
-    match word {
-        "noekeon" => Some(CipherName::Noekeon),
-        "chaskey" => Some(CipherName::Chaskey),
-        _ => None,
-    }
-}
+impl FromStr for Name {
+    type Err = UnknownName;
 
-pub fn name_of(word: &str) -> Option<Name>
-    ensures { result ≡ name_of word.now }
-{
-    match word {
-        "book" => Some(Name::Book),
-        "ring" => Some(Name::Ring),
-        "open" => Some(Name::Open),
-        "draw" => Some(Name::Draw),
-        "seal" => Some(Name::Seal),
-        "void" => Some(Name::Void),
-        "check" => Some(Name::Check),
-        "clear" => Some(Name::Clear),
-        "close" => Some(Name::Close),
-        "tell" => Some(Name::Tell),
-        "owing" => Some(Name::Owing),
-        _ => None,
+    ghost from_str_gives = { λ word r. result_ok r ≡ name_of word };
+
+    fn from_str(word: &str) -> Result<Name, UnknownName> {
+        match word {
+            "book" => Ok(Name::Book),
+            "ring" => Ok(Name::Ring),
+            "open" => Ok(Name::Open),
+            "draw" => Ok(Name::Draw),
+            "seal" => Ok(Name::Seal),
+            "void" => Ok(Name::Void),
+            "check" => Ok(Name::Check),
+            "clear" => Ok(Name::Clear),
+            "close" => Ok(Name::Close),
+            "tell" => Ok(Name::Tell),
+            "owing" => Ok(Name::Owing),
+            _ => Err(UnknownName),
+        }
     }
 }

@@ -1,10 +1,8 @@
 // Reads hash records from standard input, and prints the line of each.
 #![tactic(auto)]
 
-use anyhow::anyhow;
 use listing::listing;
-use std::env;
-use std::io::{IsTerminal, Read};
+use std::io::Read;
 
 const USAGE: &str =
     "Usage: sheethash < FILE. Reads hash records from standard input, and prints a line for each.";
@@ -20,22 +18,6 @@ fn run(rt: &HostRuntime) -> anyhow::Result<()> {
     Ok(())
 }
 
-// There are no arguments: any gets the usage, and only one that asks for it is no error.
 fn main(rt: HostRuntime) -> anyhow::Result<()> {
-    match env::args(&rt)?.nth(1) {
-        None => {
-            if rt.stdin().is_terminal() {
-                rt.eprintln(USAGE)?;
-            }
-            run(&rt)
-        }
-        Some(argument) => {
-            rt.eprintln(USAGE)?;
-            if argument.as_str() == "--help" {
-                Ok(())
-            } else {
-                Err(anyhow!("there are no arguments"))
-            }
-        }
-    }
+    usage::run_or_tell(&rt, USAGE, || run(&rt))
 }

@@ -27,7 +27,7 @@ pub enum Event {
 }
 
 impl State {
-    // The state after an event, or why the event is refused.
+    // The state after an event, or why the event is refused. By the project's rule the two are matched together.
     pub fn after(self, event: Event) -> Result<State, Refusal>
         ensures { stated result ≡ next_outcome self event }
     {

@@ -41,6 +41,7 @@ fn multiply(x: u64, y: u64) -> u64
     let yz2 = by_power(2, y);
     let yz3 = by_power(3, y);
     let mut r = 0;
+    // By a range: the coefficients are bits of one number, and no slice has them.
     for i in (0..16u32).rev() {
         let four = x >> (4 * i);
         let rows = row(four, 0, y) ^ row(four, 1, yz) ^ row(four, 2, yz2) ^ row(four, 3, yz3);

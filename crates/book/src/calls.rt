@@ -1,5 +1,5 @@
 // The book: 256 graves, one field and one cipher.
-ghost use Rattle.std.specs.Prelude.{◌≡◌, ℕ, ◌<◌, [], length, replicate, IfOk, IfErr};
+ghost use Rattle.std.specs.Prelude.{◌≡◌, [], length, replicate, IfOk, IfErr};
 ghost use Rattle.refusal.specs.Outcomes.{told};
 ghost use Rattle.seal.specs.Seals.{sealing};
 ghost use Rattle.promise.specs.History.{to_open, to_draw, to_seal, to_void, to_check, to_clear, to_close};
@@ -14,7 +14,7 @@ use graves::entry::{Entry, State};
 use graves::held::Held;
 use graves::record::Record;
 use graves::turns::Standing;
-use seal::{Cipher, Claim, Field, Key, Refusal, Wipe, seal_text};
+use seal::{Cipher, Claim, Field, Key, Refusal, Wipe};
 
 // A draw: the right to seal one sheet at a grave. Only `Book::draw` makes one, and only `Book::seal` and `Book::void`
 // take one; it cannot be let go, copied or made up.

@@ -23,5 +23,8 @@ fn run(rt: &HostRuntime) -> anyhow::Result<()> {
 }
 
 fn main(rt: HostRuntime) -> anyhow::Result<()> {
-    usage::run_or_tell(&rt, USAGE, || run(&rt))
+    if usage::asks_to_run(&rt, USAGE)? {
+        run(&rt)?;
+    }
+    Ok(())
 }

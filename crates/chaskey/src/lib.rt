@@ -10,6 +10,7 @@ use cipher::{Block, Cipher, Key};
 use std::ops::BitXor;
 
 // The state, or the key.
+// Stays beside the Words of Noekeon: the names, and the order of bytes in a word, are published for each cipher.
 #[derive(Clone, Copy, PartialEq, Eq, Debug)]
 pub struct Words {
     pub v0: u32,

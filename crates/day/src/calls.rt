@@ -12,7 +12,8 @@ use script::Call;
 use seal::{Cipher, Field};
 use std::alloc::AllocError;
 
-// What the desk gives for the call, or why the call is not done.
+// What the desk gives for the call, or why the call is not done. Each call has arguments and an answer of its own, so a match
+// on it is plainer than closures would be.
 fn make_call<F: Field, C: Cipher>(
     desk: &mut Desk<F, C>,
     call: Call,

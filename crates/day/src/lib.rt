@@ -73,6 +73,7 @@ impl Day {
     fn run(&mut self, call: Call) -> Result<Answer, AllocError>
         ensures { Ran (now_at self.old) (asked call) result (now_at self.new) }
     {
+        // The ring lies on the stack, as many of the most places as a line asked for, so that no call needs the heap for it.
         let mut ring = [0; MOST_PLACES];
         match &mut self.office {
             Some(office) => office.run(call, &mut ring[..self.places.count]),

@@ -29,7 +29,8 @@ pub struct Desk<F, C> {
     hand: Vec<Draw>,
 }
 
-// Takes the draw out of the hand, if it is there. There is then room for it to come back.
+// Takes the draw out of the hand, if it is there. There is then room for it to come back. Grave and number stay two
+// parameters here and in the calls below: they come apart from a caller, and no draw in hand is made of them.
 fn take(hand: &mut Vec<Draw>, grave: u16, number: u64) -> Option<Draw>
     ensures taken { Taken grave number hand.old.items result hand.new.items }
     ensures room { MatchOption result (hand.new ≡ hand.old) (λ _. vec_len hand.new < vec_capacity hand.new) }
@@ -52,6 +53,7 @@ impl<F: Field, C: Cipher> Desk<F, C> {
         }
     }
 
+    // Calls that are only passed on stay one by one: each says what the hand keeps, and the book is lent to nobody.
     pub fn open(&mut self, grave: u16, key: Key) -> Result<(), Refusal>
         ensures { PassedOn (state F.Field.model C.Cipher.function self.old) (to_open grave key) (told result) (state F.Field.model C.Cipher.function self.new) }
     {

@@ -1,6 +1,5 @@
 // What a grave's record says, and how its state goes on.
-ghost use Rattle.std.specs.Prelude.{◌≡◌, ◌<◌};
-ghost use Rattle.refusal.specs.Outcomes.{told};
+ghost use Rattle.std.specs.Prelude.{◌≡◌};
 ghost use Rattle.graves.specs.States.{next_outcome, stated};
 
 use crate::held::Held;
@@ -28,7 +27,7 @@ pub enum Event {
 }
 
 impl State {
-    // The state after an event, or why the event is refused.
+    // The state after an event, or why the event is refused. By the project's rule the two are matched together.
     pub fn after(self, event: Event) -> Result<State, Refusal>
         ensures { stated result ≡ next_outcome self event }
     {

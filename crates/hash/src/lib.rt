@@ -33,6 +33,7 @@ fn block_number(block: &[u8]) -> u64
     ensures value { result ≡ number block.now }
     ensures small { result < 2 ^ 56 }
 {
+    // By the project's rule these loops go over a slice's elements with their index; here it is the byte's place.
     let mut number = 0;
     for (i, byte) in block.iter().enumerate() {
         number += u64::from(*byte) << (8 * i);
@@ -107,6 +108,7 @@ fn polynomial<F: Field>(ring: &[u64], text: &[u8]) -> u64
     requires { chunk_count text.now ≤ length ring.now }
     ensures element { F.Field.model.means result ≡ after F.Field.model (map F.Field.model.means ring.now) text.now (block_count text.now) }
 {
+    // The same rule: the index of a chunk is that of its subkey.
     let mut x = 0;
     for (c, chunk) in text.chunks(CHUNK_BYTES).enumerate() {
         x = through_chunk::<F>(x, ring[c], chunk);

@@ -32,7 +32,8 @@ pub fn find_sheet(input: &[u8]) -> Result<Found, Refusal>
     })
 }
 
-// Writes the sheet's record, 24 bytes and the text, to the front of the buffer, and gives the record's length.
+// Writes the sheet's record, 24 bytes and the text, to the front of the buffer, and gives the record's length. What
+// `Draft::write` says stands here again beside the size, so that C's call rests on this one alone.
 pub fn write_sheet(draft: Draft<'_>, buffer: &mut [u8]) -> Result<usize, Refusal>
     ensures answer { told result ≡ write_outcome (drafted draft.entry) (length buffer.old) }
     ensures buffer { buffer.new ≡ buffer_after (drafted draft.entry) buffer.old }

@@ -35,18 +35,20 @@ fn multiply(a: u32, b: u32) -> u64
     u64::from(a) * u64::from(b)
 }
 
-// A number's two halves of 32 bits.
+// The two halves, of 32 bits each.
 struct Limbs {
     high: u32,
     low: u32,
 }
 
-fn split(x: u64) -> Limbs
-    ensures { result.high * 2 ^ 32 + result.low ≡ x }
-{
-    Limbs {
-        high: (x >> 32) as u32,
-        low: (x & 0xffff_ffff) as u32,
+impl From<Folded> for Limbs {
+    ghost from_gives = { λ x limbs. limbs.high * 2 ^ 32 + limbs.low ≡ x.value };
+
+    fn from(x: Folded) -> Limbs {
+        Limbs {
+            high: (x.value >> 32) as u32,
+            low: (x.value & 0xffff_ffff) as u32,
+        }
     }
 }
 
@@ -73,8 +75,8 @@ impl<const N: u64> Model for Wide<N> {
 fn wide_product(x: u64, y: u64) -> Wide<1>
     ensures { means61 result ≡ m61.times (means61 x) (means61 y) }
 {
-    let Limbs { high: a, low: b } = split(fold(x).value);
-    let Limbs { high: c, low: d } = split(fold(y).value);
+    let Limbs { high: a, low: b } = Limbs::from(fold(x));
+    let Limbs { high: c, low: d } = Limbs::from(fold(y));
     Wide {
         high: multiply(a, c),
         middle: multiply(a, d) + multiply(b, c),
@@ -119,6 +121,7 @@ impl Field for M61 {
         PRIME
     }
 
+    // `small` stays in three contracts, since a field gives and takes plain words.
     fn sum(a: u64, b: u64) -> u64
         ensures element { means61 result ≡ m61.plus (means61 a) (means61 b) }
         ensures small { result ≤ 2 ^ 61 + 6 }
@@ -151,6 +154,7 @@ impl Field for M61 {
 
     // A folded number is the prime or above exactly if one more reaches 2^61; then the carry is 1, and adding it and
     // dropping bit 61 takes the prime away. No branch tells which.
+    #[tactic(auto, using(crate::proofs::Carried::carried))]
     fn reduce(x: u64) -> u64
         ensures { result ≡ means61 x }
     {

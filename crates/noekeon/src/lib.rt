@@ -9,6 +9,7 @@ ghost use Rattle.noekeon.specs.Steps.{spread_of, theta_of, pi1_of, pi2_of, gamma
 use cipher::{Block, Cipher, Key};
 
 // The state, or the key.
+// Stays beside the Words of Chaskey: the names, and the order of bytes in a word, are published for each cipher.
 #[derive(Clone, Copy)]
 struct Words {
     a0: u32,
@@ -56,6 +57,7 @@ fn halves(first: u64, second: u64) -> Words
     }
 }
 
+// M61 halves its words too: a crate that both build on, for two shifts, would be no plainer.
 fn high(x: u64) -> u32
     ensures { result ≡ x / 2 ^ 32 }
 {

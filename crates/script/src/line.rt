@@ -63,7 +63,8 @@ pub enum Line {
     Call(Call),
 }
 
-// The line that a name begins, with the parts that are behind the name.
+// The line that a name begins, with the parts that are behind the name. Each name has parts of its own, so the match is the
+// table of them.
 fn read_named(heap: Global, name: Name, words: &mut Words) -> Result<Line, Fault>
     ensures { Heard (λ l. (said l, words.new)) result (form name words.old) }
 {

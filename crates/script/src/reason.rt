@@ -20,6 +20,7 @@ pub enum Reason {
 }
 
 impl Reason {
+    // What Display prints stands in a method of its own, since the words are a table and need no formatter.
     pub fn text(self) -> &'static str
         ensures { result.now ≡ words_of self }
     {

@@ -24,7 +24,7 @@ const OWN: u64 = 1 << 63;
 // What a `&mut` leaves, only a call's own clause can say: so each call that is lent a ring list says that it ends as zeros,
 // and each that asks a cipher that its function is kept.
 
-// Cipher and key stay two parameters: the public calls give them apart, and a pair would be undone in each function.
+// Cipher, key, draw, text and ring stay parameters: each call is given its own, and none is kept for the next.
 
 // Writes subkey c to place c, for each c below n.
 fn write_subkeys<F: Field, C: Cipher>(cipher: &mut C, key: Key, n: usize, ring: &mut [u64])

@@ -99,7 +99,8 @@ pub struct Draft<'a> {
 }
 
 impl Draft<'_> {
-    // Writes the sheet's record to the front of the buffer, and gives the record's length.
+    // Writes the sheet's record to the front of the buffer, and gives the record's length. The buffer is the caller's, by the
+    // rule for the writer, which needs no heap.
     pub fn write(self, buffer: &mut [u8]) -> Result<usize, Refusal>
         ensures answer { told result ≡ write_outcome (drafted self.entry) (length buffer.old) }
         ensures buffer { buffer.new ≡ buffer_after (drafted self.entry) buffer.old }

@@ -29,23 +29,17 @@ impl Request {
     }
 }
 
-// Any argument gets the usage, and only one that asks for it is no error. At a terminal the usage comes first, too.
-// There is no contract: a clause cannot name the arguments of a program, nor what it prints.
-pub fn run_or_tell<F: FnOnce() -> anyhow::Result<()>>(
-    rt: &HostRuntime,
-    usage: &str,
-    run: F,
-) -> anyhow::Result<()>
-    requires { F.IsAlwaysCallable run }
-{
+// Whether the program is to run. Any argument gets the usage, and only one that asks for it is no error; at a terminal the
+// usage comes first, too. There is no contract: a clause cannot name the arguments of a program, nor what it prints.
+pub fn asks_to_run(rt: &HostRuntime, usage: &str) -> anyhow::Result<bool> {
     let argument = env::args(rt)?.nth(1);
     let request = Request::of(argument.as_deref());
     if request != Request::Run || rt.stdin().is_terminal() {
         rt.eprintln(usage)?;
     }
     match request {
-        Request::Run => run(),
-        Request::Help => Ok(()),
+        Request::Run => Ok(true),
+        Request::Help => Ok(false),
         Request::NotUnderstood => Err(anyhow!("there are no arguments")),
     }
 }

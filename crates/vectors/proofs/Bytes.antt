@@ -1,7 +1,7 @@
 -- A block's words and its number, read from its bytes and written to them. Assumes nothing.
-use Rattle.std.proofs.Common.{◌≡◌, ℕ, ◌+◌, ◌*◌, ◌^◌, ◌<◌, ◌≤◌, List, length, get_or, set, replicate, ◌++◌, take, drop, min, sym, refl, ap, ◌≢◌, ◌∙◌, inl, inr, ◌-◌, lit<, arith}
-use Rattle.std.proofs.lemmas.List.{get_or-take, get_or-drop, get_or_append_left, get_or-append_right, get_or-set_same, get_or-set_other, get_or-replicate, length-append, length-take, length-drop}
-use Rattle.std.proofs.lemmas.Bool.{cases_lt, cases_eq}
+use Rattle.std.proofs.Common.{◌≡◌, ℕ, ◌+◌, ◌*◌, ◌^◌, ◌<◌, ◌≤◌, List, length, get_or, take, drop, min, sym, ap, ◌∙◌, inl, inr, ◌-◌, lit<, arith}
+use Rattle.std.proofs.lemmas.List.{get_or-take, get_or-drop, length-take, length-drop}
+use Rattle.std.proofs.lemmas.Bool.{cases_lt}
 use Rattle.std.proofs.lemmas.Bool.Decides.{nat_tests}
 use Rattle.std.specs.Int.{w128, to_le_bytes, from_le_bytes}
 use Rattle.chaskey.specs.declared.Words.{Words}
@@ -80,51 +80,14 @@ byte_in_part message part i k j within is place few =
           grind (arith, nat_tests, behind, past, gap)
     ]
 
--- a part in front of zeros, with a byte 1 behind it where there is room
-abbrev pub zeros : List ℕ
-zeros = replicate 16 0
-
-byte_filled : (part : List ℕ) (i : ℕ) → length part < 16 → i < 16
-    → get_or (set (part ++ drop (length part) zeros) (length part) 1) i 0 ≡ byte_at part i
-byte_filled part i few below =
-    let front : List ℕ = part ++ drop (length part) zeros in
-    let long = length-append part (drop (length part) zeros) in
-    let rest = length-drop (length part) zeros in
-    elim (cases_lt i (length part)) [
-      | inl in_front ↦
-          let other : i ≢ length part = omega arith in
-          let same = get_or-set_other front (length part) i 1 0 other ∙ get_or_append_left part (drop (length part) zeros) 0 i in_front in
-          same ∙ grind (arith, nat_tests, in_front)
-      | inr behind ↦ elim (cases_eq i (length part)) [
-        | inl here ↦
-            let place : length part < length front = omega arith in
-            ap (λ (n : ℕ). get_or (set front (length part) 1) n 0) here
-            ∙ get_or-set_same front (length part) 1 0 place
-            ∙ grind (arith, nat_tests, here)
-        | inr past ↦
-            let none = get_or-set_other front (length part) i 1 0 past
-            ∙ get_or-append_right part (drop (length part) zeros) (length part) i 0 refl behind
-            ∙ get_or-drop (length part) zeros (i - length part) 0
-            ∙ get_or-replicate 16 (length part + (i - length part)) 0 0 (omega arith) in
-            none ∙ grind (arith, nat_tests, behind, past)
-      ]
-    ]
-
-pub number_filled : (part : List ℕ) → length part < 16
-    → from_le_bytes w128 (set (part ++ drop (length part) zeros) (length part) 1) ≡ block_at part 0
+-- the number of the sixteen bytes that a part is filled up to
+pub filled_block : (part bytes : List ℕ) → ((i : ℕ) → i < 16 → get_or bytes i 0 ≡ byte_at part i)
+    → from_le_bytes w128 bytes ≡ block_at part 0
 unfolding block_at
-number_filled part few =
-    let bytes : List ℕ = set (part ++ drop (length part) zeros) (length part) 1 in
+filled_block part bytes filled =
     number_by bytes
     ∙ same_block (λ i. get_or bytes i 0) (byte_at part) 0
-    (λ k j place below. ap (λ (i : ℕ). get_or bytes i 0) (omega (arith, place)) ∙ byte_filled part j few below)
-
-pub number_whole : (part : List ℕ) → length part ≡ 16 → from_le_bytes w128 part ≡ block_at part 0
-unfolding block_at
-number_whole part whole =
-    number_by part
-    ∙ same_block (λ i. get_or part i 0) (byte_at part) 0
-    (λ k j place below. ap (λ (i : ℕ). get_or part i 0) place ∙ grind (arith, nat_tests, below, whole))
+    (λ k j place few. ap (λ (i : ℕ). get_or bytes i 0) (omega (arith, place)) ∙ filled j few)
 
 -- a part's block is the message's at the part's place
 pub block_of_part : (message part : List ℕ) (i : ℕ) → i ≤ length message → part ≡ take 16 (drop i message)

@@ -1,10 +1,11 @@
 // The MAC Chaskey-12, for which test vectors are published: whole blocks go through the rounds, and the last through
 // the cipher, under a key made from the MAC's.
-ghost use Rattle.std.specs.Prelude.{◌≡◌, ◌≤◌, length};
-ghost use Rattle.vectors.specs.Mac.{doubled, permuted_number, block_at, subkey_of, mac_of};
+ghost use Rattle.std.specs.Prelude.{◌≡◌, ℕ, ◌<◌, slice_index};
+ghost use Rattle.vectors.specs.Mac.{doubled, permuted_number, byte_at, block_at, subkey_of, mac_of};
 
 use chaskey::{Chaskey, Words, permute};
 use cipher::{Block, Cipher, Key};
+use std::array;
 
 // A block is a number of 128 bits here, its first byte the lowest. This is its product with x, as polynomials over the
 // bits modulo x^128 + x^7 + x^2 + x + 1.
@@ -21,17 +22,29 @@ fn permuted(x: u128) -> u128
     u128::from_le_bytes(words.into())
 }
 
-// The block of at most 16 bytes, filled up behind them by a byte 1 and zeros.
+// A byte of a part and of what fills it up behind: a byte 1, and zeros.
+fn byte_at(part: &[u8], place: usize) -> u8
+    ensures { result ≡ byte_at part.now place }
+{
+    match part.get(place) {
+        Some(byte) => *byte,
+        None if place == part.len() => 1,
+        None => 0,
+    }
+}
+
+// The first 16 of these bytes.
+fn filled(part: &[u8]) -> [u8; 16]
+    ensures { (i : ℕ) → i < 16 → slice_index result i ≡ byte_at part.now i }
+{
+    array::from_fn(|i| byte_at(part, i))
+}
+
+#[tactic(auto, using(crate::proofs::Bytes::filled_block))]
 fn block(part: &[u8]) -> u128
-    requires { length part.now ≤ 16 }
     ensures { result ≡ block_at part.now 0 }
 {
-    let mut bytes = [0; 16];
-    bytes[..part.len()].copy_from_slice(part);
-    if part.len() < 16 {
-        bytes[part.len()] = 1;
-    }
-    u128::from_le_bytes(bytes)
+    u128::from_le_bytes(filled(part))
 }
 
 // The key of the last block.

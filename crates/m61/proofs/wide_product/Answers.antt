@@ -11,20 +11,20 @@ cross high low h l = mul-le high low (2 ^ 29) (2 ^ 32 - 1) h l
 
 pub invariant_of-result : goal.invariant_of-result
 invariant_of-result c =
-    let ac = mul-le c.split-a.result.high c.split-c.result.high (2 ^ 29) (2 ^ 29) (omega arith) (omega arith) in
-    let ad = cross c.split-a.result.high c.split-c.result.low (omega arith) (omega arith) in
-    let cb = cross c.split-c.result.high c.split-a.result.low (omega arith) (omega arith) in
+    let ac = mul-le c.from-a.result.high c.from-c.result.high (2 ^ 29) (2 ^ 29) (omega arith) (omega arith) in
+    let ad = cross c.from-a.result.high c.from-c.result.low (omega arith) (omega arith) in
+    let cb = cross c.from-c.result.high c.from-a.result.low (omega arith) (omega arith) in
     (omega arith, omega arith, omega arith, omega arith)
 
 pub returns : goal.returns
 returns c =
-    let a : ℕ = c.split-a.result.high in
-    let b : ℕ = c.split-a.result.low in
-    let u : ℕ = c.split-c.result.high in
-    let v : ℕ = c.split-c.result.low in
+    let a : ℕ = c.from-a.result.high in
+    let b : ℕ = c.from-a.result.low in
+    let u : ℕ = c.from-c.result.high in
+    let v : ℕ = c.from-c.result.low in
     let top : ℕ = a * u * 2 ^ 64 + (a * v + b * u) * 2 ^ 32 in
     ap means61 (omega arith)
     ∙ plus_same top c.fold-3.result.value (b * v) (c.fold-3.ensures ∙ ap means61 c.multiply-4.ensures)
-    ∙ ap means61 (sym (parts_product a b u v (2 ^ 32)) ∙ ap₂ (λ (x y : ℕ). x * y) c.split-a.ensures c.split-c.ensures)
+    ∙ ap means61 (sym (parts_product a b u v (2 ^ 32)) ∙ ap₂ (λ (x y : ℕ). x * y) c.from-a.ensures c.from-c.ensures)
     ∙ sym (mod_mul_mod prime c.fold.result.value c.fold-2.result.value)
     ∙ ap₂ m61.times c.fold.ensures c.fold-2.ensures

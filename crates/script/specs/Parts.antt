@@ -31,7 +31,7 @@ abbrev pub by_word : {A : Type 0} → (List ℕ → Option A) → Reason → Par
 by_word f why (Ok p) = given (f p.0) why p.1
 by_word f why (Err w) = Err w
 
--- where f is what a reader tells of each word, a part is read by f
+-- a part is read by a reader of words: where f is what the reader tells of each word, the part is the word's under f
 abbrev pub ReadBy : {A : Type 0} → (List ℕ → Option A → Type 0) → Reason → Part (List ℕ) → Part A → Type 0
 ReadBy {A} Tells why at_front part =
     (f : List ℕ → Option A) → ((w : List ℕ) (v : Option A) → Tells w v → v ≡ f w) → part ≡ by_word f why at_front

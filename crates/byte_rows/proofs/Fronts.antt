@@ -1,11 +1,8 @@
 -- What a number taken off the front, or a missing one, says of the bytes. Assumes nothing.
-use Rattle.std.proofs.Common.{◌≡◌, ℕ, suc, ◌-◌, ◌<◌, ◌≤◌, List, length, take, drop, Some, None, ap, ◌∙◌, inl, inr, arith}
-use Rattle.std.proofs.lemmas.List.{take_rest}
-use Rattle.std.proofs.lemmas.Bool.{le-ltb}
+use Rattle.std.proofs.Common.{◌≡◌, ℕ, suc, ◌<◌, ◌≤◌, List, length, take, drop, Some, None, ap, inl, inr, arith}
 use Rattle.std.proofs.lemmas.Bool.Decides.{nat_tests, leb_tells}
 use Rattle.byte_rows.specs.Numbers.{number}
 use Rattle.byte_rows.specs.Fronts.{front}
-use Rattle.byte_rows.proofs.Places.{by_place, number_by_place}
 
 -- what a number that is missing, or there, says of the bytes
 pub front_none : (n : ℕ) (bytes : List ℕ) → None ≡ front n bytes → length bytes < n

@@ -1,7 +1,6 @@
 -- The name that a number stands for is of the field that the number is of. Assumes nothing.
-use Rattle.std.proofs.Common.{◌≡◌, ℕ, Bool, true, false, cond, ◌==◌, Some, None, refl, arith, Option}
-use Rattle.refusal.specs.Outcomes.{Outcome, gives, refuses}
-use Rattle.field.specs.Model.{Model}
+use Rattle.std.proofs.Common.{◌≡◌, ℕ, Bool, true, false, cond, ◌==◌, Some, None, refl}
+use Rattle.refusal.specs.Outcomes.{gives, refuses}
 use Rattle.m61.specs.Mersenne.{m61}
 use Rattle.b63.specs.Binary.{b63}
 use Rattle.fields.specs.declared.FieldName.{FieldName}

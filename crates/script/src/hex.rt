@@ -65,6 +65,7 @@ fn hex_bytes(heap: Global, digits: &[u8]) -> Result<Vec<u8>, Fault>
 {
     let mut bytes = Vec::new(heap);
     let mut rest = digits;
+    // The pattern takes two off the front, so no index is counted, and an odd one is what is left.
     while let [high, low, after @ ..] = rest {
         bytes.push(byte_of(*high, *low).ok_or(Reason::NotAText)?)?;
         rest = after;

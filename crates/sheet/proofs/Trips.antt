@@ -20,7 +20,7 @@ use Rattle.sheet.specs.Sheets.{
   read_outcome,
 }
 use Rattle.sheet.specs.Names.{sealed}
-use Rattle.sheet.specs.Writing.{write_causes, write_outcome, ReadsBack, WritesBack}
+use Rattle.sheet.specs.Writing.{write_causes, ReadsBack, WritesBack}
 use Rattle.sheet.proofs.Bodies.{body_read, body_written}
 
 -- the outcome of the body decides, where the frame is whole and of the kind

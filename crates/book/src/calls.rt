@@ -232,5 +232,5 @@ fn place(grave: u16) -> Result<u8, Refusal>
 fn key_used(table: &[Record], key: Key) -> bool
     ensures { result ≡ is_used (records table.now) key }
 {
-    table.iter().any(|record| record.holds_key(key))
+    table.iter().any(|record| record.entry.holds_key(key))
 }

@@ -30,7 +30,7 @@ pub trait Cipher {
         ensures kept { function self.new ≡ function self.old };
 }
 
-// These stay methods and no From impls: by its name a call says, as u64's own to_be_bytes does, that bytes are meant.
+// These stay methods and no From impls: within an expression `into` would need its type written beside it.
 
 impl Key {
     pub fn to_bytes(self) -> [u8; 16]

@@ -18,7 +18,8 @@ pub enum CipherName {
     Chaskey,
 }
 
-// 0 and 1; any other number is refused as undefined.
+// 0 and 1; any other number is refused as undefined. The tables stand beside those of `FieldName`, which have other cases: a
+// table is what such an impl is.
 impl TryFrom<u8> for CipherName {
     type Error = Refusal;
 

@@ -45,4 +45,4 @@ module _ {F C : Type 0} where
   Left d q p (Ok a) d' = Made d q p a d'
   Left d q p (Err NotInHand) d' = Made d q p is.NotInHand d'
   Left d q p (Err (Refused w)) d' = Made d q p (is.Refused w) d'
-  Left d q p (Err Memory) d' = d' ≡ d
+  Left d q p (Err (Memory e)) d' = d' ≡ d

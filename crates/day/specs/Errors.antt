@@ -7,7 +7,7 @@ use Rattle.day.specs.declared.call_error.CallError.{CallError}
 use Rattle.day.specs.declared.call_error.CallError.TheVariants.{Memory, NotInHand, Refused}
 
 abbrev pub from_draw : DrawError → CallError
-from_draw of_draw.Memory = Memory
+from_draw (of_draw.Memory e) = Memory e
 from_draw (of_draw.Refused w) = Refused w
 
 abbrev pub from_spend : SpendError → CallError

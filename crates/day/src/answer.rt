@@ -8,6 +8,7 @@ use refusal::Refusal;
 use script::Reason;
 use std::fmt;
 
+// One enum for all that a line prints, so a refusal is an answer here; within a call it is an error, and goes by `?`.
 #[derive(Clone, Copy)]
 pub enum Answer {
     Done,

@@ -5,10 +5,11 @@ ghost use Rattle.day.specs.declared.call_error.CallError.TheVariants.{Refused};
 
 use desk::{DrawError, SpendError};
 use refusal::Refusal;
+use std::alloc::AllocError;
 
 #[derive(Clone, Copy)]
 pub enum CallError {
-    Memory,
+    Memory(AllocError),
     NotInHand,
     Refused(Refusal),
 }
@@ -26,7 +27,7 @@ impl From<DrawError> for CallError {
 
     fn from(why: DrawError) -> CallError {
         match why {
-            DrawError::Memory => CallError::Memory,
+            DrawError::Memory(why) => CallError::Memory(why),
             DrawError::Refused(refusal) => CallError::Refused(refusal),
         }
     }

@@ -72,6 +72,6 @@ pub fn run_call<F: Field, C: Cipher>(
         Ok(answer) => Ok(answer),
         Err(CallError::NotInHand) => Ok(Answer::NotInHand),
         Err(CallError::Refused(refusal)) => Ok(Answer::Refused(refusal)),
-        Err(CallError::Memory) => Err(AllocError),
+        Err(CallError::Memory(why)) => Err(why),
     }
 }

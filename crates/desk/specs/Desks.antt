@@ -40,7 +40,7 @@ module _ {F C : Type 0} where
   -- without memory for the draw the book is not asked, and nothing changes
   abbrev pub Draws : State F C → ℕ → Result ℕ DrawError → State F C → Type 0
   Draws d g (Ok n) d' = Drawn d g (Ok n) d'
-  Draws d g (Err of_draw.Memory) d' = d' ≡ d
+  Draws d g (Err (of_draw.Memory e)) d' = d' ≡ d
   Draws d g (Err (of_draw.Refused w)) d' = Drawn d g (Err w) d'
 
   -- the draw was not in hand; the book was not asked, and nothing changed

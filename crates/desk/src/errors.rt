@@ -7,9 +7,9 @@ use refusal::Refusal;
 use std::alloc::AllocError;
 
 // Why no draw is handed out: there is no memory for it, or the book refuses it.
-#[derive(Clone, Copy, PartialEq, Eq, Debug)]
+#[derive(Clone, Copy, PartialEq, Eq)]
 pub enum DrawError {
-    Memory,
+    Memory(AllocError),
     Refused(Refusal),
 }
 
@@ -21,10 +21,10 @@ pub enum SpendError {
 }
 
 impl From<AllocError> for DrawError {
-    ghost from_gives = { λ _ e. e ≡ of_draw.Memory };
+    ghost from_gives = { λ why e. e ≡ of_draw.Memory why };
 
-    fn from(_e: AllocError) -> DrawError {
-        DrawError::Memory
+    fn from(why: AllocError) -> DrawError {
+        DrawError::Memory(why)
     }
 }
 

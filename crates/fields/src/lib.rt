@@ -19,7 +19,8 @@ pub enum FieldName {
     B63,
 }
 
-// 0 and 1; any other number is refused as undefined.
+// 0 and 1; any other number is refused as undefined. The tables stand beside those of `CipherName`, which have other cases:
+// a table is what such an impl is.
 impl TryFrom<u8> for FieldName {
     type Error = Refusal;
 

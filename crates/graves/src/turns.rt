@@ -29,25 +29,27 @@ pub enum Standing {
     Superseded,
 }
 
-impl Record {
+impl Entry {
     // Whether the record is of a grave that has or had the key.
     pub fn holds_key(&self, key: Key) -> bool
-        ensures { result ≡ (not (is_free (state self.now.entry.state)) && same_key self.now.entry.key key) }
+        ensures { result ≡ (not (is_free (state self.now.state)) && same_key self.now.key key) }
     {
-        let used = !matches!(self.entry.state, State::Free);
-        used && self.entry.key == key
+        let used = !matches!(self.state, State::Free);
+        used && self.key == key
     }
 
     // The standing of a true sheet under the draw.
     pub fn standing_of(&self, draw: u64) -> Standing
-        ensures { standing_told result ≡ rule.standing self.now.entry.current draw }
+        ensures { standing_told result ≡ rule.standing self.now.current draw }
     {
-        match self.entry.current {
+        match self.current {
             Some(newest) if newest == draw => Standing::Current,
             _ => Standing::Superseded,
         }
     }
+}
 
+impl Record {
     // The state goes on, and nothing else changes.
     pub fn gone_on(self, event: Event) -> Result<Record, Refusal>
         ensures { turned result ≡ decided (state_causes (state self.entry.state) event) (gives (with_state (state_after (state self.entry.state) event) (the_record self))) }
@@ -184,6 +186,6 @@ impl Record {
             *self = counted;
             return Err(Refusal::SealWrong);
         }
-        Ok(self.standing_of(claim.draw))
+        Ok(self.entry.standing_of(claim.draw))
     }
 }

@@ -9,7 +9,7 @@ ghost use Rattle.hemmuzhan.specs.Sheets.{found_in, Placed, RecordLength};
 use refusal::Refusal;
 use sheet::{Draft, Read, read_sheet};
 
-// What a record says of its sheet.
+// What a record says of its sheet, without a reference: C has none of ours, so the text is told by its length.
 #[derive(Clone, Copy, PartialEq, Eq, Debug)]
 pub struct Found {
     pub grave: u8,
@@ -32,8 +32,8 @@ pub fn find_sheet(input: &[u8]) -> Result<Found, Refusal>
     })
 }
 
-// Writes the sheet's record, 24 bytes and the text, to the front of the buffer, and gives the record's length. What
-// `Draft::write` says stands here again beside the size, so that C's call rests on this one alone.
+// Writes the sheet's record, 24 bytes and the text, to the front of the buffer, and gives the record's length. A client of
+// this crate alone has here what `Draft::write` says, and the size.
 pub fn write_sheet(draft: Draft<'_>, buffer: &mut [u8]) -> Result<usize, Refusal>
     ensures answer { told result ≡ write_outcome (drafted draft.entry) (length buffer.old) }
     ensures buffer { buffer.new ≡ buffer_after (drafted draft.entry) buffer.old }

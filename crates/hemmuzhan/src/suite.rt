@@ -1,5 +1,5 @@
 // A field and a cipher: what a seal is made over. That the ring list ends as zeros is said by each call that is lent one,
-// since no type can say what a `&mut` leaves.
+// since no type can say what a `&mut` leaves. A field is a type, so the two calls have an arm for each field.
 ghost use Rattle.std.specs.Prelude.{◌≡◌, length, replicate};
 ghost use Rattle.refusal.specs.Outcomes.{told};
 ghost use Rattle.seal.specs.Sealing.{seal_outcome, check_outcome};

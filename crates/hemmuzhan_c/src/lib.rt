@@ -13,9 +13,9 @@ ghost use Rattle.hemmuzhan.specs.Calls.{key_of, sealed_outcome, checked_outcome,
 ghost use Rattle.hemmuzhan.specs.Values.{value_after};
 ghost use Rattle.hemmuzhan.specs.Sheets.{grave_read, draw_read, seal_read, text_length_read, Placed, RecordLength};
 
-use hemmuzhan::{Suite, find_sheet, write_sheet};
+use hemmuzhan::{accept, find_sheet, hash_into, seal_into, write_sheet};
 use refusal::Refusal;
-use seal::{Claim, Key, Wipe};
+use seal::{Claim, Key};
 use sheet::Draft;
 
 // 0, or the refusal's number.
@@ -28,12 +28,11 @@ fn status<T: Drop>(answer: Result<T, Refusal>) -> u8
     }
 }
 
-fn put_hash(field: u8, ring: &[u64], text: &[u8], hash: &mut u64) -> Result<(), Refusal>
-    ensures answer { status (told result) ≡ status (hash_over_field (field_called field) ring.now text.now) }
-    ensures hash { hash.new ≡ value_after (hash_over_field (field_called field) ring.now text.now) hash.old }
+// The key that C gives as two numbers.
+fn key_of(first: u64, second: u64) -> Key
+    ensures { result ≡ key_of first second }
 {
-    *hash = hemmuzhan::hash(field, ring, text)?;
-    Ok(())
+    Key { first, second }
 }
 
 // Writes the text's hash under the ring to `hash`.
@@ -42,29 +41,7 @@ pub extern "C" fn hemmuzhan_hash(field: u8, ring: &[u64], text: &[u8], hash: &mu
     ensures answer { result ≡ status (hash_over_field (field_called field) ring.now text.now) }
     ensures hash { hash.new ≡ value_after (hash_over_field (field_called field) ring.now text.now) hash.old }
 {
-    status(put_hash(field, ring, text, hash))
-}
-
-fn put_seal(
-    field: u8,
-    cipher: u8,
-    key: Key,
-    draw: u64,
-    text: &[u8],
-    ring: &mut [u64],
-    seal: &mut [u64],
-) -> Result<(), Refusal>
-    ensures answer { status (told result) ≡ status (sealed_outcome field cipher key draw text.now (length ring.old) (length seal.old)) }
-    ensures seal { seal.new ≡ seal_after (sealed_outcome field cipher key draw text.now (length ring.old) (length seal.old)) seal.old }
-    ensures zeros { ring.new ≡ replicate (length ring.old) 0 }
-{
-    let guard = Wipe { ring };
-    let suite = Suite::named(field, cipher)?;
-    if seal.is_empty() {
-        return Err(Refusal::BufferTooShort);
-    }
-    seal[0] = suite.seal(key, draw, text, guard.ring)?;
-    Ok(())
+    status(hash_into(field, ring, text, hash))
 }
 
 // Writes the seal of the text to the first place of `seal`. The ring list ends as zeros, whichever way the call ends.
@@ -83,31 +60,8 @@ pub extern "C" fn hemmuzhan_seal(
     ensures seal { seal.new ≡ seal_after (sealed_outcome field cipher (key_of key_first key_second) draw text.now (length ring.old) (length seal.old)) seal.old }
     ensures zeros { ring.new ≡ replicate (length ring.old) 0 }
 {
-    let key = Key {
-        first: key_first,
-        second: key_second,
-    };
-    status(put_seal(field, cipher, key, draw, text, ring, seal))
-}
-
-// A seal that is not the text's is refused.
-fn accept(
-    field: u8,
-    cipher: u8,
-    key: Key,
-    claim: Claim<'_>,
-    ring: &mut [u64],
-) -> Result<(), Refusal>
-    ensures answer { status (told result) ≡ verdict (checked_outcome field cipher key claim.entry.draw claim.entry.text.now claim.entry.seal (length ring.old)) }
-    ensures zeros { ring.new ≡ replicate (length ring.old) 0 }
-{
-    let guard = Wipe { ring };
-    let suite = Suite::named(field, cipher)?;
-    if suite.check(key, claim, guard.ring)? {
-        Ok(())
-    } else {
-        Err(Refusal::SealWrong)
-    }
+    let key = key_of(key_first, key_second);
+    status(seal_into(field, cipher, key, draw, text, ring, seal))
 }
 
 // Whether the seal is the text's: 0 where it is. The ring list ends as zeros, whichever way the call ends.
@@ -125,10 +79,7 @@ pub extern "C" fn hemmuzhan_check(
     ensures answer { result ≡ verdict (checked_outcome field cipher (key_of key_first key_second) draw text.now seal (length ring.old)) }
     ensures zeros { ring.new ≡ replicate (length ring.old) 0 }
 {
-    let key = Key {
-        first: key_first,
-        second: key_second,
-    };
+    let key = key_of(key_first, key_second);
     let claim = Claim { draw, text, seal };
     status(accept(field, cipher, key, claim, ring))
 }

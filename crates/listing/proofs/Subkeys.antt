@@ -1,11 +1,9 @@
 -- The subkeys of a record, read one after another. Assumes nothing.
-use Rattle.std.proofs.Common.{◌≡◌, ℕ, zero, suc, ◌+◌, ◌*◌, ◌<◌, ◌≤◌, true, false, ltb, List, [], ◌∷◌, ◌++◌, length, take, drop, set, Some, None, sym, refl, ap, ◌∙◌, add-one, arith}
-use Rattle.std.proofs.lemmas.List.{length-drop, drop-drop, take_more_set, take_all}
-use Rattle.std.proofs.lemmas.Bool.{lt-ltb, le-ltb}
+use Rattle.std.proofs.Common.{◌≡◌, ℕ, zero, suc, ◌+◌, ◌*◌, ◌<◌, ◌≤◌, List, [], ◌∷◌, ◌++◌, length, take, drop, set, sym, refl, ap, ◌∙◌, add-one, arith}
+use Rattle.std.proofs.lemmas.List.{length-drop, drop-drop, take_more_set}
 use Rattle.byte_rows.specs.Numbers.{number}
 use Rattle.byte_rows.proofs.Fronts.{Taken}
 use Rattle.listing.specs.Requests.{subkeys}
-use Rattle.listing.specs.Names.{subkeys_read}
 
 -- one subkey more behind n
 subkeys_push : (n : ℕ) (bytes : List ℕ)
@@ -41,24 +39,3 @@ turned {bytes} {i} {ring} x rest' s within t =
           ∙ sym (subkeys_push i bytes)
           ∙ ap (λ (n : ℕ). subkeys n bytes) (sym (add-one i));
     }
-
-pub begun : (bytes ring : List ℕ) → Sofar bytes 0 ring bytes
-begun bytes ring = record { enough = omega arith; to_come = refl; placed = refl }
-
--- where a subkey is missing
-pub stopped : {bytes : List ℕ} {i : ℕ} {ring rest : List ℕ} (n : ℕ) → Sofar bytes i ring rest → i < n
-    → length rest < 8 → None ≡ subkeys_read n bytes
-stopped {bytes} {i} n s more few =
-    let left = ap length s.to_come ∙ length-drop (8 * i) bytes in
-    let short : ltb (length bytes) (8 * n) ≡ true = lt-ltb (length bytes) (8 * n) (omega arith) in
-    simp short
-
--- where all are there
-pub ended : {bytes : List ℕ} {i : ℕ} {ring rest : List ℕ} (n : ℕ) → Sofar bytes i ring rest → i ≡ n
-    → length ring ≡ n → (Some rest ≡ subkeys_read n bytes) × (ring ≡ subkeys n bytes)
-ended {bytes} {i} {ring} {rest} n s all long =
-    let there : ltb (length bytes) (8 * n) ≡ false = le-ltb (length bytes) (8 * n) (omega (arith, s.enough)) in
-    let behind : rest ≡ drop (8 * n) bytes = s.to_come ∙ ap (λ (k : ℕ). drop (8 * k) bytes) all in (
-      simp (there, behind),
-      sym (take_all i ring (omega arith)) ∙ s.placed ∙ ap (λ (k : ℕ). subkeys k bytes) all,
-    )

@@ -33,6 +33,7 @@ pub fn answer(kind: u16, body: &[u8]) -> Result<u64, Refusal>
     let Ok(Kind::HashRequest) = Kind::try_from(kind) else {
         return Err(Refusal::Undefined);
     };
+    // By the project's rule a chain of let .. else takes the parts, as in the sheet's reader.
     let Some((field, after_field)) = take::<u8, 1>(body) else {
         return Err(Refusal::RecordCutShort);
     };
@@ -40,7 +41,7 @@ pub fn answer(kind: u16, body: &[u8]) -> Result<u64, Refusal>
         return Err(Refusal::RecordCutShort);
     };
     let field = FieldName::try_from(field)?;
-    let count = count as usize;
+    let count = usize::from(count);
     if count > MOST_SUBKEYS {
         return Err(Refusal::Undefined);
     }

@@ -48,6 +48,7 @@ fn check_limits(grave: u16, text: &[u8]) -> Result<(), Refusal>
 fn read_body(body: &[u8]) -> Result<Sheet<'_>, Refusal>
     ensures { mapped sheet_seen (told result) ≡ decided (body_causes body.now) (gives (sheet_in body.now)) }
 {
+    // By the project's rule a chain of let .. else takes the parts.
     let Some((grave, after_grave)) = take::<u16, 2>(body) else {
         return Err(Refusal::RecordCutShort);
     };
@@ -58,6 +59,7 @@ fn read_body(body: &[u8]) -> Result<Sheet<'_>, Refusal>
         return Err(Refusal::RecordCutShort);
     };
     check_limits(grave, text)?;
+    // The limits serve the writer too, and test the grave before the text; behind them a grave is one byte.
     Ok(Sheet {
         grave: grave as u8,
         draw,

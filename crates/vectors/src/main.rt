@@ -8,8 +8,8 @@ ghost use Rattle.vectors.specs.Published.{Published};
 
 mod mac;
 
-use chaskey::Chaskey;
 use cipher::{Block, Cipher, Key};
+use ciphers::CipherName;
 use noekeon::Noekeon;
 
 // The bytes 00, 11 and so on up to ff, the first of them the lowest.
@@ -52,11 +52,8 @@ fn answer(line: &str) -> Option<u128> {
     let name = words.next()?;
     let key = u128::from_str_radix(words.next()?, 16).ok()?;
     let block = u128::from_str_radix(words.next()?, 16).ok()?;
-    match name {
-        "noekeon" => Some(asked(&mut Noekeon, key, block)),
-        "chaskey" => Some(asked(&mut Chaskey, key, block)),
-        _ => None,
-    }
+    let mut cipher: CipherName = name.parse().ok()?;
+    Some(asked(&mut cipher, key, block))
 }
 
 // That the definitions themselves give published answers, some of those that the compiled code is held to below.

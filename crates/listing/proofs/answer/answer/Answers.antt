@@ -18,9 +18,11 @@ returns c =
     let after_count = c.in-Some-take.after_count.now in
     let n = c.in-Some-take.count in
     let few : n ≤ 8 = omega arith in
+    let many = c.from-count.result in
+    let fits : many ≤ 8 = omega arith in
     answered (named c.args.kind _ c.in-Ok-HashRequest.ensures ∙ ap number_of c.in-Ok-HashRequest.field-0-is)
     (opened (front_some 1 body after_field c.in-Some.field c.in-Some.ensures)
     (front_some 1 after_field after_count n c.in-Some-take.ensures))
-    (sym (called c.in-Some.field c.in_ok-field.field c.in_ok-field.ensures)) few (places _ n refl few)
+    (sym (called c.in-Some.field c.in_ok-field.field c.in_ok-field.ensures)) few (places _ many refl fits ∙ c.from-count.ensures)
     c.in-Some-take_subkeys.ensures.rest (c.in-Some-take_subkeys.ensures.ring refl)
     c.hash_over.ensures

@@ -2,6 +2,7 @@
 #![tactic(auto)]
 
 use day::Day;
+use std::env;
 
 const USAGE: &str =
     "Usage: bookrun < FILE. Reads calls from standard input, one to a line, and prints their answers.";
@@ -23,7 +24,8 @@ fn run(rt: &HostRuntime) -> anyhow::Result<()> {
 }
 
 fn main(rt: HostRuntime) -> anyhow::Result<()> {
-    if usage::asks_to_run(&rt, USAGE)? {
+    let argument = env::args(&rt)?.nth(1);
+    if usage::asks_to_run(&rt, USAGE, argument.as_deref())? {
         run(&rt)?;
     }
     Ok(())

@@ -2,6 +2,7 @@
 #![tactic(auto)]
 
 use listing::listing;
+use std::env;
 use std::io::Read;
 
 const USAGE: &str =
@@ -19,7 +20,8 @@ fn run(rt: &HostRuntime) -> anyhow::Result<()> {
 }
 
 fn main(rt: HostRuntime) -> anyhow::Result<()> {
-    if usage::asks_to_run(&rt, USAGE)? {
+    let argument = env::args(&rt)?.nth(1);
+    if usage::asks_to_run(&rt, USAGE, argument.as_deref())? {
         run(&rt)?;
     }
     Ok(())

@@ -1,12 +1,11 @@
 // What a program that has no arguments does where it is given one.
 #![tactic(auto)]
 
-ghost use Rattle.std.specs.Prelude.{◌≡◌};
+ghost use Rattle.std.specs.Prelude.{◌≡◌, IfOk};
 ghost use Rattle.std.specs.Option.{option_map};
-ghost use Rattle.usage.specs.Requests.{requested};
+ghost use Rattle.usage.specs.Requests.{requested, told_by};
 
 use anyhow::anyhow;
-use std::env;
 use std::io::IsTerminal;
 
 #[derive(Clone, Copy, PartialEq, Eq, Debug)]
@@ -29,11 +28,12 @@ impl Request {
     }
 }
 
-// Whether the program is to run. Any argument gets the usage, and only one that asks for it is no error; at a terminal the
-// usage comes first, too. There is no contract: a clause cannot name the arguments of a program, nor what it prints.
-pub fn asks_to_run(rt: &HostRuntime, usage: &str) -> anyhow::Result<bool> {
-    let argument = env::args(rt)?.nth(1);
-    let request = Request::of(argument.as_deref());
+// Whether the program is to run, by its first argument. Any argument gets the usage, and only one that asks for it is no error;
+// at a terminal the usage comes first, too. What is printed no clause can name.
+pub fn asks_to_run(rt: &HostRuntime, usage: &str, argument: Option<&str>) -> anyhow::Result<bool>
+    ensures { IfOk result (λ runs. requested (option_map (λ a. a.now) argument.entry) ≡ told_by runs) }
+{
+    let request = Request::of(argument);
     if request != Request::Run || rt.stdin().is_terminal() {
         rt.eprintln(usage)?;
     }

@@ -2,3 +2,4 @@ mod Placed
 mod Finished
 mod Nowhere
 mod Idle
+mod Looked

@@ -53,7 +53,7 @@ heard S s p r = decided (check_causes S r s p) (gives (standing r.current s.draw
 
 module _ {rs : List Record} {g i : ℕ} {first : List Cause} (at : At rs g i first) (d : Record) where
   -- the grave's record, as the code and as the rules find it
-  place : the_record (get_or rs i d) ≡ grave (records rs) g
+  pub place : the_record (get_or rs i d) ≡ grave (records rs) g
   place = sym (get_or-map the_record rs i d free at.there) ∙ ap (grave (records rs)) at.is
 
   put : (next : Record) (q : rule.Record) → the_record next ≡ q → records (set rs i next) ≡ set (records rs) g q

@@ -3,10 +3,10 @@ ghost use Rattle.std.specs.Prelude.{◌≡◌, [], length, replicate, IfOk, IfEr
 ghost use Rattle.refusal.specs.Outcomes.{told};
 ghost use Rattle.seal.specs.Seals.{sealing};
 ghost use Rattle.promise.specs.History.{to_open, to_draw, to_seal, to_void, to_check, to_clear, to_close};
-ghost use Rattle.promise.specs.Records.{new, is_used};
+ghost use Rattle.promise.specs.Records.{new, is_free, is_used};
 ghost use Rattle.promise.specs.Register.{Reached};
 ghost use Rattle.promise.specs.Promise.{Promise};
-ghost use Rattle.graves.specs.Entries.{records};
+ghost use Rattle.graves.specs.Entries.{the_record, records};
 ghost use Rattle.graves.specs.Checks.{checked_told, claimed};
 ghost use Rattle.book.specs.Calls.{state, Done, drawn_told, sealed_told, place_outcome, account_told, tell_outcome, Owing};
 
@@ -155,7 +155,9 @@ impl<F: Field, C: Cipher> Book<F, C> {
         ensures { Done (state F.Field.model C.Cipher.function self.old) (to_open grave key) (told result) (state F.Field.model C.Cipher.function self.new) }
     {
         let grave = place(grave)?;
-        let used = key_used(&self.graves.table, key);
+        let record = &self.graves.table[usize::from(grave)];
+        // Only a free grave is opened, so the keys are looked through for no other.
+        let used = is_free(record) && key_used(&self.graves.table, key);
         let record = &mut self.graves.table[usize::from(grave)];
         record.open(key, used)
     }
@@ -226,6 +228,13 @@ fn place(grave: u16) -> Result<u8, Refusal>
     ensures { told result ≡ place_outcome grave }
 {
     u8::try_from(grave).map_err(|_| Refusal::GraveOutOfRange)
+}
+
+// Whether the record is of a grave that was never opened.
+fn is_free(found: &Record) -> bool
+    ensures { result ≡ is_free (the_record found.now).state }
+{
+    matches!(found.entry.state, State::Free)
 }
 
 // Whether a grave that is not free has the key.

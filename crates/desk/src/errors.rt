@@ -7,7 +7,7 @@ use refusal::Refusal;
 use std::alloc::AllocError;
 
 // Why no draw is handed out: there is no memory for it, or the book refuses it.
-#[derive(Clone, Copy, PartialEq, Eq)]
+#[derive(Clone, Copy, PartialEq, Eq, Debug)]
 pub enum DrawError {
     Memory(AllocError),
     Refused(Refusal),
